@@ -1,0 +1,127 @@
+-- What an accepted ship shows: each check that it passed, turned back into the fact that it tests.
+use Prim.Native.Nat.{ℕ, suc, _+_, _-_, _≤_, _<_}
+use mathlib.Core.Bool.{Bool, true, false, not, _||_, _&&_, Bool·beq, true≢false}
+use mathlib.Core.List.{List}
+use mathlib.Core.Path.{_≡_, refl, sym, ap, _∙_}
+use lib.Dec.{eqb, ltb, leb}
+use lib.ListN.{length, getD}
+use borrow.Author.Tests.{ltb-false, leb-false, eqb-true, eqb-false, not-false}
+use native.Mathlib.Numerals.{add-one}
+use native.Mathlib.Omega.{arith}
+use Rattle.units.specs.Datum.{stationOf}
+use Rattle.ship.specs.declared.House.{House}
+use Rattle.ship.specs.declared.Ship.{Ship}
+use Rattle.ship.specs.declared.checks.Rule.{Rule}
+use Rattle.ship.specs.declared.checks.Rule.the-variants.{EndsAndHeight, RaisedQuarterdeck, NoOverlap}
+use Rattle.ship.specs.Vessel.{housesOf, houseAt}
+use Rattle.ship.specs.Refusals.{Paper, first}
+use Rattle.ship.specs.Checks.{least, most, outside, fieldsOf, fieldOut, firstFrom, halfCertified, badEnds, badQuarterdeck, foreBefore, breaks, breachAt, firstBreach, houseLines, shipLines}
+use Rattle.ship.specs.Good.{Good, GoodHouse, GoodHouses}
+use Rattle.ship.proofs.First.{none-before}
+use Rattle.ship.proofs.Lines.{or-false, all-pass, first-passed}
+
+-- 7: a field before the first that is outside is in its range
+pub in-range : (fields : List ℕ) (k : ℕ) → k < fieldOut fields → (getD least k 0 ≤ getD fields k 0) × (getD fields k 0 ≤ getD most k 0)
+unfolding fieldOut
+in-range fields k h =
+    let e = or-false (ltb (getD fields k 0) (getD least k 0)) (ltb (getD most k 0) (getD fields k 0)) (none-before (outside fields) 0 13 k (omega arith) h) in
+    (ltb-false (getD fields k 0) (getD least k 0) (e .0), ltb-false (getD most k 0) (getD fields k 0) (e .1))
+
+-- 9 to 11: a house before the first breach breaks no rule
+obeys : (r : Rule) (l : ℕ) (hs : List House) → length hs ≤ firstBreach r l hs → (k : ℕ) → k < length hs → breaks r l (foreBefore hs k) (houseAt hs k) ≡ false
+unfolding firstBreach breachAt
+obeys r l hs h k g = none-before (breachAt r l hs) 0 (length hs) k (omega arith) (omega arith)
+
+module _ (l : ℕ) (h : House) where
+  ends-of : badEnds l h ≡ false → (h .aft .0 < h .fore .0) × (stationOf 0 < h .fore .0) × (h .aft .0 < stationOf l) × (stationOf 0 - 20000 ≤ h .aft .0)
+      × (h .fore .0 ≤ stationOf (l + 20000)) × (1 ≤ h .height .0) × (h .height .0 ≤ 8191)
+  ends-of e =
+      let a = h .aft .0 in
+      let f = h .fore .0 in
+      let t = h .height .0 in
+      let s = or-false (leb f a || leb f (stationOf 0) || leb (stationOf l) a || ltb a (stationOf 0 - 20000) || ltb (stationOf (l + 20000)) f || ltb t 1) (ltb 8191 t) e in
+      let u = or-false (leb f a || leb f (stationOf 0) || leb (stationOf l) a || ltb a (stationOf 0 - 20000) || ltb (stationOf (l + 20000)) f) (ltb t 1) (s .0) in
+      let v = or-false (leb f a || leb f (stationOf 0) || leb (stationOf l) a || ltb a (stationOf 0 - 20000)) (ltb (stationOf (l + 20000)) f) (u .0) in
+      let w = or-false (leb f a || leb f (stationOf 0) || leb (stationOf l) a) (ltb a (stationOf 0 - 20000)) (v .0) in
+      let x = or-false (leb f a || leb f (stationOf 0)) (leb (stationOf l) a) (w .0) in
+      let y = or-false (leb f a) (leb f (stationOf 0)) (x .0) in (
+        leb-false f a (y .0),
+        leb-false f (stationOf 0) (y .1),
+        leb-false (stationOf l) a (x .1),
+        ltb-false a (stationOf 0 - 20000) (w .1),
+        ltb-false (stationOf (l + 20000)) f (v .1),
+        ltb-false t 1 (u .1),
+        ltb-false 8191 t (s .1),
+      )
+
+  deck-of : badQuarterdeck l h ≡ false → h .quarterdeck ≡ true → (h .enclosed ≡ true) × (h .aft .0 ≤ stationOf 0) × (h .fore .0 < stationOf l)
+  deck-of e q =
+      let b : (not (h .enclosed) || ltb (stationOf 0) (h .aft .0) || leb (stationOf l) (h .fore .0)) ≡ false =
+      sym (ap (λ (d : Bool). d && (not (h .enclosed) || ltb (stationOf 0) (h .aft .0) || leb (stationOf l) (h .fore .0))) q) ∙ e in
+      let s = or-false (not (h .enclosed) || ltb (stationOf 0) (h .aft .0)) (leb (stationOf l) (h .fore .0)) b in
+      let t = or-false (not (h .enclosed)) (ltb (stationOf 0) (h .aft .0)) (s .0) in
+      (not-false (h .enclosed) (t .0), ltb-false (stationOf 0) (h .aft .0) (t .1), leb-false (stationOf l) (h .fore .0) (s .1))
+
+pub good-houses : (l : ℕ) (hs : List House) → first (houseLines l hs) .number ≡ 0 → GoodHouses l hs
+unfolding breaks
+good-houses l hs e =
+    let p = all-pass (houseLines l hs) (omega arith) e in
+    let ends = obeys EndsAndHeight l hs (ltb-false (firstBreach EndsAndHeight l hs) (length hs) (p .0)) in
+    let deck = obeys RaisedQuarterdeck l hs (ltb-false (firstBreach RaisedQuarterdeck l hs) (length hs) (p .1 .0)) in
+    let lap = obeys NoOverlap l hs (ltb-false (firstBreach NoOverlap l hs) (length hs) (p .1 .1 .0)) in
+    record {
+      each = λ k h.
+          let f = ends-of l (houseAt hs k) (ends k h) in
+          record {
+            ends = f .0;
+            ahead = f .1;
+            abaft = f .2;
+            aft-most = f .3;
+            fore-most = f .4;
+            height-least = f .5;
+            height-most = f .6;
+            quarterdeck = deck-of l (houseAt hs k) (deck k h);
+          };
+      order = λ k h.
+          rw (add-one k) (ltb-false (houseAt hs (suc k) .aft .0) (houseAt hs k .fore .0) (lap (suc k) (omega arith)));
+    }
+
+certified-of : (a b : ℕ) → not (Bool·beq (eqb a 0) (eqb b 0)) ≡ false → (0 < a → 0 < b) × (0 < b → 0 < a)
+certified-of a b e = go (eqb a 0) (eqb b 0) refl refl e
+  where
+    go : (p q : Bool) → eqb a 0 ≡ p → eqb b 0 ≡ q → not (Bool·beq p q) ≡ false → (0 < a → 0 < b) × (0 < b → 0 < a)
+    go true true f g e = let m = eqb-true a 0 f in let n = eqb-true b 0 g in (λ h. omega arith, λ h. omega arith)
+    go true false f g e = absurd (true≢false e)
+    go false true f g e = absurd (true≢false e)
+    go false false f g e =
+        let m : ¬ (a ≡ 0) = eqb-false a 0 f in
+        let n : ¬ (b ≡ 0) = eqb-false b 0 g in
+        (λ h. omega arith, λ h. omega arith)
+
+pub good : (x : Ship) → first (shipLines x) .number ≡ 0 → Good x
+good x e =
+    let p = all-pass (shipLines x) (omega arith) e in
+    let r : (k : ℕ) → k < 13 → (getD least k 0 ≤ getD (fieldsOf x) k 0) × (getD (fieldsOf x) k 0 ≤ getD most k 0) =
+    λ k h. in-range (fieldsOf x) k (omega (arith, ltb-false (fieldOut (fieldsOf x)) 13 (p .0))) in
+    record {
+      length-least = r 0 (omega arith) .0;
+      length-most = r 0 (omega arith) .1;
+      depth-least = r 1 (omega arith) .0;
+      depth-most = r 1 (omega arith) .1;
+      moulded-least = r 2 (omega arith) .0;
+      moulded-most = r 2 (omega arith) .1;
+      block-least = r 3 (omega arith) .0;
+      block-most = r 3 (omega arith) .1;
+      waterplane-least = r 4 (omega arith) .0;
+      waterplane-most = r 4 (omega arith) .1;
+      sheer-0 = omega (arith, r 5 (omega arith) .1);
+      sheer-1 = omega (arith, r 6 (omega arith) .1);
+      sheer-2 = omega (arith, r 7 (omega arith) .1);
+      sheer-3 = omega (arith, r 8 (omega arith) .1);
+      sheer-4 = omega (arith, r 9 (omega arith) .1);
+      sheer-5 = omega (arith, r 10 (omega arith) .1);
+      displacement = omega (arith, r 11 (omega arith) .1);
+      immersion = omega (arith, r 12 (omega arith) .1);
+      certified = certified-of (x .displacement) (x .immersion) (p .1 .0);
+      houses = good-houses (x .length .0) (housesOf x) (ap (λ (v : Paper). v .number) (first-passed (houseLines (x .length .0) (housesOf x)) (p .1 .1)));
+    }

@@ -1,0 +1,4 @@
+pub mod First
+pub mod Lines
+pub mod Accepted
+pub mod OneToOne

@@ -1,0 +1,49 @@
+-- Laws of the table's lines: what an accepted list shows, and two lists one after the other.
+use Prim.Native.Nat.{ℕ, _<_}
+use mathlib.Core.Bool.{Bool, true, false, _||_, _&&_}
+use mathlib.Core.List.{List, [], _∷_, _++_}
+use mathlib.Core.Path.{_≡_, refl, sym, ap, _∙_}
+use native.Mathlib.Omega.{arith}
+use lib.Dec.{eqb}
+use borrow.Author.Tests.{ne-eqb}
+use Rattle.whole.specs.Pick.{pick}
+use Rattle.ship.specs.Refusals.{Paper, Line, accepted, refused, first}
+
+-- no line refuses by the number 0, which means acceptance
+abbrev pub Numbered : List Line → Type 0
+Numbered [] = Unit {0}
+Numbered (t ∷ ts) = (0 < t .1 .number) × Numbered ts
+
+-- no line's check fails
+abbrev pub AllPass : List Line → Type 0
+AllPass [] = Unit {0}
+AllPass (t ∷ ts) = (t .0 ≡ false) × AllPass ts
+
+pub all-pass : (ts : List Line) → Numbered ts → first ts .number ≡ 0 → AllPass ts
+unfolding first pick
+all-pass [] m e = tt
+all-pass (t ∷ ts) m e = go (t .0) refl (all-pass ts (m .1)) e
+  where
+    go : (b : Bool) → t .0 ≡ b → (first ts .number ≡ 0 → AllPass ts) → pick b (t .1) (first ts) .number ≡ 0 → (t .0 ≡ false) × AllPass ts
+    go true q r e = absurd (omega (arith, m .0))
+    go false q r e = (q, r e)
+
+pub first-passed : (ts : List Line) → AllPass ts → first ts ≡ accepted
+unfolding first pick
+first-passed [] a = refl
+first-passed (t ∷ ts) a = rw (a .0) (first-passed ts (a .1))
+
+-- two lists, one after the other: the second speaks where the first accepts
+pub first-append : (ts us : List Line) → Numbered ts → first (ts ++ us) ≡ pick (eqb (first ts .number) 0) (first us) (first ts)
+unfolding first pick
+first-append [] us m = refl
+first-append (t ∷ ts) us m = go (t .0) (first-append ts us (m .1))
+  where
+    go : (b : Bool) → first (ts ++ us) ≡ pick (eqb (first ts .number) 0) (first us) (first ts)
+        → pick b (t .1) (first (ts ++ us)) ≡ pick (eqb (pick b (t .1) (first ts) .number) 0) (first us) (pick b (t .1) (first ts))
+    go true r = rw (ne-eqb (t .1 .number) 0 (λ z. omega (arith, m .0))) refl
+    go false r = r
+
+pub or-false : (a b : Bool) → (a || b) ≡ false → (a ≡ false) × (b ≡ false)
+or-false true b e = absurd (let z : _≡_ {A = ℕ} 0 1 = cc in omega arith)
+or-false false b e = (refl, e)

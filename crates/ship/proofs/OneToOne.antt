@@ -1,0 +1,38 @@
+-- 01's number and place name one verdict: no two verdicts have the same paper.
+use Prim.Native.Nat.{ℕ}
+use mathlib.Core.List.{List, [], _∷_}
+use mathlib.Core.Path.{_≡_, refl, sym, ap, _∙_}
+use lib.ListN.{getD}
+use Rattle.ship.specs.declared.refusal.Refusal.the-variants.{Short, Version, Kind, Count, Size, Spare, Field, Certified, Ends, Quarterdeck, Overlap, Buffer}
+use Rattle.ship.specs.declared.refusal.Verdict.{Verdict}
+use Rattle.ship.specs.declared.refusal.Verdict.the-variants.{Accepted, Refused}
+use Rattle.ship.specs.Refusals.{Paper, paper}
+
+-- the verdict that has a paper; numbers that these calls do not use stand as `Accepted`
+verdictOf : Paper → Verdict
+verdictOf p =
+    getD
+    (Accepted ∷ Refused Short ∷ Refused Version ∷ Refused Kind ∷ Refused Count ∷ Refused Size ∷ Refused Spare ∷ Refused (Field (p .place)) ∷ Refused Certified
+    ∷ Refused (Ends (p .place)) ∷ Refused (Quarterdeck (p .place)) ∷ Refused (Overlap (p .place))
+    ∷ Accepted ∷ Accepted ∷ Accepted ∷ Accepted ∷ Accepted ∷ Refused Buffer ∷ [])
+    (p .number)
+    Accepted
+
+back : (v : Verdict) → verdictOf (paper v) ≡ v
+unfolding verdictOf
+back Accepted = refl
+back (Refused Short) = refl
+back (Refused Version) = refl
+back (Refused Kind) = refl
+back (Refused Count) = refl
+back (Refused Size) = refl
+back (Refused Spare) = refl
+back (Refused (Field k)) = refl
+back (Refused Certified) = refl
+back (Refused (Ends k)) = refl
+back (Refused (Quarterdeck k)) = refl
+back (Refused (Overlap k)) = refl
+back (Refused Buffer) = refl
+
+pub one-verdict : (v w : Verdict) → paper v ≡ paper w → v ≡ w
+one-verdict v w e = sym (back v) ∙ ap verdictOf e ∙ back w

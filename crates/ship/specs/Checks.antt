@@ -1,0 +1,92 @@
+-- 01, "Refusals and their order", checks 7 to 11, each over all houses before the next begins.
+use Prim.Native.Nat.{ℕ, zero, suc, _+_, _-_}
+use mathlib.Core.Bool.{Bool, true, false, not, _&&_, _||_, Bool·beq}
+use mathlib.Core.List.{List, [], _∷_, _++_}
+use lib.Dec.{eqb, ltb, leb}
+use lib.ListN.{length, getD}
+use Rattle.whole.specs.Pick.{pick}
+use Rattle.units.specs.Datum.{stationOf}
+use Rattle.ship.specs.declared.House.{House}
+use Rattle.ship.specs.declared.Ship.{Ship}
+use Rattle.ship.specs.declared.checks.Rule.{Rule}
+use Rattle.ship.specs.declared.checks.Rule.the-variants.{EndsAndHeight, RaisedQuarterdeck, NoOverlap}
+use Rattle.ship.specs.Vessel.{housesOf, houseAt}
+use Rattle.ship.specs.Refusals.{Line, refused}
+
+-- the first number from k on, below k + m, that fails a test; k + m where none does
+unfoldable pub firstFrom : (ℕ → Bool) → ℕ → ℕ → ℕ
+firstFrom fails k zero = k
+firstFrom fails k (suc m) = pick (fails k) k (firstFrom fails (k + 1) m)
+
+-- fields 1 to 13; the sheer is lifted by 8192 mm
+abbrev pub fieldsOf : Ship → List ℕ
+fieldsOf x =
+    x .length .0 ∷ x .depth .0 ∷ x .moulded .0 ∷ x .block ∷ x .waterplane
+    ∷ getD (x .sheer) 0 0 ∷ getD (x .sheer) 1 0 ∷ getD (x .sheer) 2 0 ∷ getD (x .sheer) 3 0 ∷ getD (x .sheer) 4 0 ∷ getD (x .sheer) 5 0
+    ∷ x .displacement ∷ x .immersion ∷ []
+
+-- the ranges of fields 1 to 13, or of their bits
+abbrev pub least : List ℕ
+least = 24000 ∷ 1000 ∷ 1000 ∷ 1 ∷ 1 ∷ 0 ∷ 0 ∷ 0 ∷ 0 ∷ 0 ∷ 0 ∷ 0 ∷ 0 ∷ []
+
+abbrev pub most : List ℕ
+most = 365000 ∷ 60000 ∷ 60000 ∷ 12000 ∷ 10000 ∷ 16383 ∷ 16383 ∷ 16383 ∷ 16383 ∷ 16383 ∷ 16383 ∷ 1048575 ∷ 65535 ∷ []
+
+-- 7: a field outside its range or bits
+abbrev pub outside : List ℕ → ℕ → Bool
+outside fields k = ltb (getD fields k 0) (getD least k 0) || ltb (getD most k 0) (getD fields k 0)
+
+unfoldable pub fieldOut : List ℕ → ℕ
+fieldOut fields = firstFrom (outside fields) 0 13
+
+-- 8: one of fields 12, 13 zero and not the other
+abbrev pub halfCertified : Ship → Bool
+halfCertified x = not (Bool·beq (eqb (x .displacement) 0) (eqb (x .immersion) 0))
+
+-- 9: fore end not above aft end, fore end at or below 0, aft end at or above L, aft end below -20000, fore end above L+20000,
+-- height outside 1..8191
+abbrev pub badEnds : ℕ → House → Bool
+badEnds l h =
+    leb (h .fore .0) (h .aft .0) || leb (h .fore .0) (stationOf 0) || leb (stationOf l) (h .aft .0) || ltb (h .aft .0) (stationOf 0 - 20000)
+    || ltb (stationOf (l + 20000)) (h .fore .0) || ltb (h .height .0) 1 || ltb 8191 (h .height .0)
+
+-- 10: raised quarterdeck not enclosed, aft end above 0, or fore end at or above L
+abbrev pub badQuarterdeck : ℕ → House → Bool
+badQuarterdeck l h = h .quarterdeck && (not (h .enclosed) || ltb (stationOf 0) (h .aft .0) || leb (stationOf l) (h .fore .0))
+
+-- the fore end of the house before place k; the first has none before it
+abbrev pub foreBefore : List House → ℕ → ℕ
+foreBefore hs zero = 0
+foreBefore hs (suc k) = houseAt hs k .fore .0
+
+-- 11: aft end below the previous house's fore end
+abbrev pub laps : ℕ → House → Bool
+laps before h = ltb (h .aft .0) before
+
+-- one of the three on one house
+unfoldable pub breaks : Rule → ℕ → ℕ → House → Bool
+breaks EndsAndHeight l before h = badEnds l h
+breaks RaisedQuarterdeck l before h = badQuarterdeck l h
+breaks NoOverlap l before h = laps before h
+
+-- and on the house at place k of a list
+unfoldable pub breachAt : Rule → ℕ → List House → ℕ → Bool
+breachAt r l hs k = breaks r l (foreBefore hs k) (houseAt hs k)
+
+-- the first house that breaks a rule, or their number
+unfoldable pub firstBreach : Rule → ℕ → List House → ℕ
+firstBreach r l hs = firstFrom (breachAt r l hs) 0 (length hs)
+
+abbrev pub houseLine : ℕ → Rule → ℕ → List House → Line
+houseLine number r l hs = (ltb (firstBreach r l hs) (length hs), refused number (firstBreach r l hs))
+
+-- 9 to 11, on a list of houses and L alone
+abbrev pub houseLines : ℕ → List House → List Line
+houseLines l hs = houseLine 9 EndsAndHeight l hs ∷ houseLine 10 RaisedQuarterdeck l hs ∷ houseLine 11 NoOverlap l hs ∷ []
+
+-- 7 to 11, on a ship
+abbrev pub shipLines : Ship → List Line
+shipLines x =
+    (ltb (fieldOut (fieldsOf x)) 13, refused 7 (fieldOut (fieldsOf x) + 1))
+    ∷ (halfCertified x, refused 8 0)
+    ∷ houseLines (x .length .0) (housesOf x)

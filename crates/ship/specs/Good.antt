@@ -1,0 +1,49 @@
+-- What the checks show of an accepted ship, in plain inequalities: the steps above require this and no more.
+use Prim.Native.Nat.{ℕ, suc, _+_, _-_, _≤_, _<_}
+use mathlib.Core.Bool.{Bool, true}
+use mathlib.Core.Path.{_≡_}
+use mathlib.Core.List.{List}
+use lib.ListN.{length, getD}
+use Rattle.units.specs.Datum.{stationOf}
+use Rattle.ship.specs.declared.House.{House}
+use Rattle.ship.specs.declared.Ship.{Ship}
+use Rattle.ship.specs.Vessel.{housesOf, houseAt}
+
+-- a house that passes 9 and 10
+pub record GoodHouse (l : ℕ) (h : House) : Type 0 where
+  pub ends : h .aft .0 < h .fore .0
+  pub ahead : stationOf 0 < h .fore .0
+  pub abaft : h .aft .0 < stationOf l
+  pub aft-most : stationOf 0 - 20000 ≤ h .aft .0
+  pub fore-most : h .fore .0 ≤ stationOf (l + 20000)
+  pub height-least : 1 ≤ h .height .0
+  pub height-most : h .height .0 ≤ 8191
+  pub quarterdeck : h .quarterdeck ≡ true → (h .enclosed ≡ true) × (h .aft .0 ≤ stationOf 0) × (h .fore .0 < stationOf l)
+
+-- a list that passes 9 to 11
+pub record GoodHouses (l : ℕ) (hs : List House) : Type 0 where
+  pub each : (k : ℕ) → k < length hs → GoodHouse l (houseAt hs k)
+  pub order : (k : ℕ) → k + 1 < length hs → houseAt hs k .fore .0 ≤ houseAt hs (k + 1) .aft .0
+
+-- a ship that passes 7 to 11
+pub record Good (x : Ship) : Type 0 where
+  pub length-least : 24000 ≤ x .length .0
+  pub length-most : x .length .0 ≤ 365000
+  pub depth-least : 1000 ≤ x .depth .0
+  pub depth-most : x .depth .0 ≤ 60000
+  pub moulded-least : 1000 ≤ x .moulded .0
+  pub moulded-most : x .moulded .0 ≤ 60000
+  pub block-least : 1 ≤ x .block
+  pub block-most : x .block ≤ 12000
+  pub waterplane-least : 1 ≤ x .waterplane
+  pub waterplane-most : x .waterplane ≤ 10000
+  pub sheer-0 : getD (x .sheer) 0 0 < 16384
+  pub sheer-1 : getD (x .sheer) 1 0 < 16384
+  pub sheer-2 : getD (x .sheer) 2 0 < 16384
+  pub sheer-3 : getD (x .sheer) 3 0 < 16384
+  pub sheer-4 : getD (x .sheer) 4 0 < 16384
+  pub sheer-5 : getD (x .sheer) 5 0 < 16384
+  pub displacement : x .displacement < 1048576
+  pub immersion : x .immersion < 65536
+  pub certified : (0 < x .displacement → 0 < x .immersion) × (0 < x .immersion → 0 < x .displacement)
+  pub houses : GoodHouses (x .length .0) (housesOf x)

@@ -1,0 +1,4 @@
+pub mod Vessel
+pub mod Refusals
+pub mod Checks
+pub mod Good

@@ -1,0 +1,71 @@
+-- 01, "Ship record": the empty house, the ship of zeros, and when two ships are equal.
+use Prim.Native.Nat.{ℕ, _-_}
+use mathlib.Core.List.{List, _++_}
+use mathlib.Core.Path.{_≡_}
+use mathlib.Core.Bool.{false}
+use lib.ListN.{take, replicate, getD}
+use Rattle.units.specs.Datum.{datum}
+use Rattle.ship.specs.declared.House.{House}
+use Rattle.ship.specs.declared.Ship.{Ship}
+
+-- 0 mm of sheer, lifted so that no ordinate is below zero
+abbrev pub lift : ℕ
+lift = 8192
+
+-- places beyond n read as zero
+abbrev pub noHouse : House
+noHouse = record { enclosed = false; quarterdeck = false; aft = record { 0 = datum }; fore = record { 0 = datum }; height = record { 0 = 0 } }
+
+-- beside a refusal the ship is all zero
+abbrev pub noShip : Ship
+noShip = record {
+  kind = 0;
+  n = 0;
+  length = record { 0 = 0 };
+  depth = record { 0 = 0 };
+  moulded = record { 0 = 0 };
+  block = 0;
+  waterplane = 0;
+  sheer = replicate 6 lift;
+  displacement = 0;
+  immersion = 0;
+  houses = replicate 8 noHouse;
+}
+
+-- the houses that count
+abbrev pub housesOf : Ship → List House
+housesOf x = take (x .n) (x .houses)
+
+-- the house at place k. Past the end of a list the logic reads a record of naught, which no definition looks at
+abbrev pub houseAt : List House → ℕ → House
+houseAt hs k = getD hs k (record { enclosed = false; quarterdeck = false; aft = record { 0 = 0 }; fore = record { 0 = 0 }; height = record { 0 = 0 } })
+
+-- the ship with its places beyond n at zero
+abbrev pub clean : Ship → Ship
+clean x = record {
+  kind = x .kind;
+  n = x .n;
+  length = x .length;
+  depth = x .depth;
+  moulded = x .moulded;
+  block = x .block;
+  waterplane = x .waterplane;
+  sheer = x .sheer;
+  displacement = x .displacement;
+  immersion = x .immersion;
+  houses = housesOf x ++ replicate (8 - x .n) noHouse;
+}
+
+-- ships are equal if their fields and first n houses are
+pub record Same (x y : Ship) : Type 0 where
+  pub kind : x .kind ≡ y .kind
+  pub count : x .n ≡ y .n
+  pub length : x .length .0 ≡ y .length .0
+  pub depth : x .depth .0 ≡ y .depth .0
+  pub moulded : x .moulded .0 ≡ y .moulded .0
+  pub block : x .block ≡ y .block
+  pub waterplane : x .waterplane ≡ y .waterplane
+  pub sheer : x .sheer ≡ y .sheer
+  pub displacement : x .displacement ≡ y .displacement
+  pub immersion : x .immersion ≡ y .immersion
+  pub houses : housesOf x ≡ housesOf y

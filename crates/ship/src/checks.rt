@@ -1,0 +1,151 @@
+// Checks 7 to 11 on a ship, and 9 to 11 on a list of houses with L alone.
+ghost use mathlib.Core.Path.{_≡_};
+ghost use Prim.Native.Nat.{ℕ, _≤_, _<_, _+_};
+ghost use lib.ListN.{length, take, getD};
+ghost use Rattle.ship.specs.Vessel.{housesOf};
+ghost use Rattle.ship.specs.Refusals.{paper, first};
+ghost use Rattle.ship.specs.Checks.{fieldsOf, fieldOut, outside, breaks, firstBreach, houseLines, shipLines, halfCertified};
+use crate::House;
+use crate::Ship;
+use crate::refusal;
+use crate::refusal::Refusal;
+use crate::refusal::Verdict;
+use units::Span;
+
+// The ranges of fields 1 to 13, or of their bits; the sheer is lifted by 8192 mm.
+const LEAST: [u64; 13] = [24000, 1000, 1000, 1, 1, 0, 0, 0, 0, 0, 0, 0, 0];
+
+const MOST: [u64; 13] = [
+    365000,
+    60000,
+    60000,
+    12000,
+    10000,
+    16383,
+    16383,
+    16383,
+    16383,
+    16383,
+    16383,
+    1048575,
+    65535,
+];
+
+fn fields(x: Ship) -> [u64; 13]
+    ensures { λ r. ⌜ r ≡ fieldsOf x ⌝ }
+{
+    let s = x.sheer;
+    [
+        x.length.0,
+        x.depth.0,
+        x.moulded.0,
+        x.block,
+        x.waterplane,
+        s[0],
+        s[1],
+        s[2],
+        s[3],
+        s[4],
+        s[5],
+        x.displacement,
+        x.immersion,
+    ]
+}
+
+// The first field outside its range, counted from 0, or 13.
+fn field_out(fields: [u64; 13]) -> usize
+    ensures { λ r. ⌜ (r ≡ fieldOut fields) × (r ≤ 13) ⌝ }
+{
+    let mut k = 0;
+    while k < 13 {
+        let v = fields[k];
+        if (v < LEAST[k]) | (MOST[k] < v) {
+            return k;
+        }
+        k += 1;
+    }
+    k
+}
+
+// What checks 9, 10 and 11 ask of a house.
+pub enum Rule {
+    EndsAndHeight,
+    RaisedQuarterdeck,
+    NoOverlap,
+}
+
+// Whether a house breaks a rule; `before` is the fore end of the house before it.
+fn house_breaks(rule: Rule, l: u64, before: u64, h: House) -> bool
+    requires { ⌜ l ≤ 365000 ⌝ }
+    ensures { λ r. ⌜ r ≡ breaks rule l before h ⌝ }
+{
+    let aft = h.aft.0;
+    let fore = h.fore.0;
+    let height = h.height.0;
+    match rule {
+        Rule::EndsAndHeight => {
+            (fore <= aft)
+                | (fore <= 1048576)
+                | (1048576 + l <= aft)
+                | (aft < 1028576)
+                | (1048576 + (l + 20000) < fore)
+                | (height < 1)
+                | (8191 < height)
+        }
+        Rule::RaisedQuarterdeck => {
+            h.quarterdeck & (!h.enclosed | (1048576 < aft) | (1048576 + l <= fore))
+        }
+        Rule::NoOverlap => aft < before,
+    }
+}
+
+// The first of `n` houses that breaks a rule, or `n`.
+fn first_breach(rule: Rule, l: u64, houses: [House; 8], n: usize) -> usize
+    requires { ⌜ (l ≤ 365000) × (n ≤ 8) ⌝ }
+    ensures { λ r. ⌜ (r ≡ firstBreach rule l (take n houses)) × (r ≤ 8) ⌝ }
+{
+    let mut before: u64 = 0;
+    let mut k = 0;
+    while k < n {
+        let h = houses[k];
+        if house_breaks(rule, l, before, h) {
+            return k;
+        }
+        before = h.fore.0;
+        k += 1;
+    }
+    k
+}
+
+// Checks 9 to 11 on the first `n` houses, from the table's last line up.
+pub fn of_houses(l: Span, houses: [House; 8], n: usize) -> Verdict
+    requires { ⌜ (l .0 ≤ 365000) × (n ≤ 8) ⌝ }
+    ensures { λ v. ⌜ paper v ≡ first (houseLines (l .0) (take n houses)) ⌝ }
+{
+    let mm = l.0;
+    let ends = first_breach(Rule::EndsAndHeight, mm, houses, n);
+    let deck = first_breach(Rule::RaisedQuarterdeck, mm, houses, n);
+    let lap = first_breach(Rule::NoOverlap, mm, houses, n);
+    let v = refusal::line(lap < n, Refusal::Overlap(lap), Verdict::Accepted);
+    let v = refusal::line(deck < n, Refusal::Quarterdeck(deck), v);
+    refusal::line(ends < n, Refusal::Ends(ends), v)
+}
+
+// Checks 7 to 11. No later check is safe to work before L is known to be in its range.
+pub fn of_ship(x: Ship) -> Verdict
+    requires { ⌜ x .n ≤ 8 ⌝ }
+    ensures { λ v. ⌜ paper v ≡ first (shipLines x) ⌝ }
+{
+    let k = field_out(fields(x));
+    if k < 13 {
+        return Verdict::Refused(Refusal::Field(k + 1));
+    }
+    let houses = x.houses;
+    let l = x.length;
+    let v = of_houses(l, houses, x.n);
+    refusal::line(
+        (x.displacement == 0) != (x.immersion == 0),
+        Refusal::Certified,
+        v,
+    )
+}

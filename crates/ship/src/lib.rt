@@ -1,0 +1,72 @@
+// The ship of record version 1: its fields, and up to eight houses kept by value.
+ghost use mathlib.Core.Path.{_≡_};
+ghost use Rattle.ship.specs.Vessel.{noHouse, noShip};
+use units::Span;
+use units::Station;
+
+pub mod checks;
+pub mod refusal;
+
+// A house on the freeboard deck, from its after end to its fore end.
+pub struct House {
+    pub enclosed: bool,
+    pub quarterdeck: bool,
+    pub aft: Station,
+    pub fore: Station,
+    pub height: Span,
+}
+
+// Fields 1 to 13 in the record's order, and the houses in order from aft, of which the first `n` count.
+pub struct Ship {
+    // 0 is type A, 1 type B.
+    pub kind: u64,
+    pub n: usize,
+    // L, D and M.
+    pub length: Span,
+    pub depth: Span,
+    pub moulded: Span,
+    // Cb and Cwf, in ten thousandths.
+    pub block: u64,
+    pub waterplane: u64,
+    // Millimetres above 8192 mm below the deck line, so that none is below zero: AP, L/6, L/3 from AP, L/3, L/6 from FP, FP.
+    pub sheer: [u64; 6],
+    // Tonnes, and hundredths of a tonne per centimetre; both 0 where nothing is certified.
+    pub displacement: u64,
+    pub immersion: u64,
+    pub houses: [House; 8],
+}
+
+// The house of a place beyond the last: nothing, at the after perpendicular.
+pub fn no_house() -> House
+    ensures { λ r. ⌜ r ≡ noHouse ⌝ }
+{
+    House {
+        enclosed: false,
+        quarterdeck: false,
+        aft: Station(1048576),
+        fore: Station(1048576),
+        height: Span(0),
+    }
+}
+
+// The ship beside a refusal: all zero.
+pub fn no_ship() -> Ship
+    ensures { λ r. ⌜ r ≡ noShip ⌝ }
+{
+    let none = no_house();
+    let houses = [none; 8];
+    let sheer = [8192u64; 6];
+    Ship {
+        kind: 0,
+        n: 0,
+        length: Span(0),
+        depth: Span(0),
+        moulded: Span(0),
+        block: 0,
+        waterplane: 0,
+        sheer,
+        displacement: 0,
+        immersion: 0,
+        houses,
+    }
+}

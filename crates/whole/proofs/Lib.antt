@@ -1,0 +1,7 @@
+pub mod Pick
+pub mod Divide
+pub mod Frac
+pub mod Round
+pub mod Row
+pub mod Signed
+pub mod Difference

@@ -1,0 +1,35 @@
+-- Laws of specs/Pick.antt.
+use mathlib.Core.Path.{_≡_, refl, sym, _∙_}
+use mathlib.Core.Bool.{Bool, true, false}
+use Prim.Native.Nat.{ℕ, _≤_}
+use native.Mathlib.Omega.{arith}
+use native.Mathlib.Decide.{decLt}
+use borrow.Author.Tests.{le-leb, lt-leb}
+use lib.Dec.{leb}
+use Rattle.whole.specs.Pick.{pick}
+
+pub pick-true : {A : Type 0} (b : Bool) (x y : A) → b ≡ true → pick b x y ≡ x
+unfolding pick
+pick-true b x y e = rw e refl
+
+pub pick-false : {A : Type 0} (b : Bool) (x y : A) → b ≡ false → pick b x y ≡ y
+unfolding pick
+pick-false b x y e = rw e refl
+
+-- a fact of each arm, with its test, is one of the choice
+pub by-cases : {A : Type 0} (P : A → Type 0) (b : Bool) (x y : A) → (b ≡ true → P x) → (b ≡ false → P y) → P (pick b x y)
+unfolding pick
+by-cases P true x y h g = h refl
+by-cases P false x y h g = g refl
+
+-- where the two agree whenever the test fails, the first is the choice: a test that only guards against what is zero anyhow can go
+pub untested : {A : Type 0} (b : Bool) (x y : A) → (b ≡ false → x ≡ y) → x ≡ pick b x y
+untested {A} b x y h = by-cases (λ (z : A). x ≡ z) b x y (λ t. refl) h
+
+-- two tests that follow from each other are one; for `ltb a b`, which is `leb (suc a) b`, with `suc a` and `suc c`
+pub same-test : (a b c d : ℕ) → (a ≤ b → c ≤ d) → (c ≤ d → a ≤ b) → leb a b ≡ leb c d
+same-test a b c d f g =
+    elim (decLt b a) [
+      | yes t ↦ (let n : ¬ (c ≤ d) = λ h. omega (arith, g h) in lt-leb a b t ∙ sym (lt-leb c d (omega arith)))
+      | no t ↦ (let h : a ≤ b = omega arith in le-leb a b h ∙ sym (le-leb c d (f h)))
+    ]

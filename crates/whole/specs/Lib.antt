@@ -1,0 +1,5 @@
+pub mod Pick
+pub mod Divide
+pub mod Frac
+pub mod Round
+pub mod Row

@@ -1,0 +1,77 @@
+//! Sample data for run tests: records to read, and ships to write, with the lines to be printed.
+//!
+//! `samples records DIR` and `samples writes DIR` each make DIR/data/NAME for every case,
+//! DIR/args with the names in order, and DIR/stdout with one line for each.
+
+mod records;
+mod ships;
+mod writes;
+
+use std::fs;
+use std::io;
+use std::path::Path;
+use std::process::ExitCode;
+
+/// A refusal's number and place.
+pub type Expected = Option<(u8, usize)>;
+
+/// One case: its input, and the line that answers it.
+pub struct Sample {
+    pub name: String,
+    pub data: Vec<u8>,
+    pub line: String,
+}
+
+impl Sample {
+    /// Stops if the line is not the refusal (or the acceptance) that the case is there for.
+    pub fn new(name: &str, data: Vec<u8>, line: String, expected: Expected) -> Sample {
+        match expected {
+            Some((number, place)) => {
+                let refused = format!("refused {number} {place}");
+                let said = line.split(' ').take(3).collect::<Vec<_>>().join(" ");
+                assert_eq!(said, refused, "{name}: {line}");
+            }
+            None => assert!(!line.starts_with("refused"), "{name}: {line}"),
+        }
+        Sample { name: name.to_string(), data, line }
+    }
+}
+
+fn save(directory: &Path, samples: &[Sample]) -> io::Result<()> {
+    let data = directory.join("data");
+    fs::create_dir_all(&data)?;
+    let mut names = String::new();
+    let mut lines = String::new();
+    for (i, sample) in samples.iter().enumerate() {
+        let twice = samples[..i].iter().any(|earlier| earlier.name == sample.name);
+        assert!(!twice, "two cases are called {}", sample.name);
+        fs::write(data.join(&sample.name), &sample.data)?;
+        names += &format!("{}\n", sample.name);
+        lines += &format!("{}: {}\n", sample.name, sample.line);
+    }
+    fs::write(directory.join("args"), names)?;
+    fs::write(directory.join("stdout"), lines)
+}
+
+fn main() -> ExitCode {
+    let arguments: Vec<String> = std::env::args().skip(1).collect();
+    let words: Vec<&str> = arguments.iter().map(String::as_str).collect();
+    let (samples, directory) = match words[..] {
+        ["records", directory] => (records::samples(), directory),
+        ["writes", directory] => (writes::samples(), directory),
+        _ => {
+            eprintln!("usage: samples records DIR | samples writes DIR");
+            return ExitCode::from(2);
+        }
+    };
+    match save(Path::new(directory), &samples) {
+        Ok(()) => {
+            println!("{} cases", samples.len());
+            ExitCode::SUCCESS
+        }
+        Err(error) => {
+            eprintln!("{directory}: {error}");
+            ExitCode::FAILURE
+        }
+    }
+}

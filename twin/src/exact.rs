@@ -1,0 +1,210 @@
+//! The summer freeboard with no rounding anywhere: same steps, same tests, same floor.
+//!
+//! Written with the regulations' own units, metres for lengths and mm for freeboards, in
+//! fractions, and apart from the rounded working.
+
+use crate::big::{over, whole, Fraction};
+use crate::marks;
+use crate::record::{House, Kind, Ship};
+use crate::table28;
+
+/// The exact freeboards, mm.
+#[derive(Clone, Debug)]
+pub struct Exact {
+    /// After regulations 28 to 38.
+    pub corrected: Fraction,
+    /// From the bow height of regulation 39.
+    pub bow: Fraction,
+    /// The greater of the two, and at least 50 (40).
+    pub summer: Fraction,
+}
+
+/// What rounding costs, um.
+#[derive(Clone, Copy, Debug)]
+pub struct Cost {
+    /// The mark above the exact value, its round-up to mm included.
+    pub mark: f64,
+    /// The freeboard in um, before that round-up and before the floor of 50 mm.
+    pub summer: f64,
+    /// The corrected value alone.
+    pub corrected: f64,
+    /// The freeboard from the bow height alone.
+    pub bow: f64,
+}
+
+/// Linear between the points, flat beyond the first and the last.
+fn linear(x: &Fraction, points: &[(Fraction, Fraction)]) -> Fraction {
+    let after = points.partition_point(|(at, _)| at < x);
+    if after == 0 {
+        return points[0].1.clone();
+    }
+    let (x0, y0) = &points[after - 1];
+    match points.get(after) {
+        Some((x1, y1)) => y0 + (y1 - y0) * (x - x0) / (x1 - x0),
+        None => y0.clone(),
+    }
+}
+
+/// The exact summer freeboard and its two sources.
+pub fn exact(ship: &Ship) -> Exact {
+    let l = over(ship.length, 1000);
+    let d = over(ship.depth, 1000);
+    let enclosed = || ship.houses.iter().filter(|house| house.enclosed);
+    let forecastle = enclosed().find(|house| house.fore >= ship.length);
+    let s: Fraction = enclosed().map(|house| plain_length(house, &l)).sum();
+    let e: Fraction = enclosed().map(|house| effective_length(house, &l)).sum();
+    let cb = over(ship.cb.min(10_000), 10_000); // 30
+
+    // 28
+    let rows = match ship.kind {
+        Kind::A => &table28::TYPE_A,
+        Kind::B => &table28::TYPE_B,
+    };
+    let row = (ship.length / 1000) as usize - table28::FIRST;
+    let points: Vec<_> = (row..table28::ROWS.min(row + 2))
+        .map(|i| (whole((table28::FIRST + i) as i64), whole(rows[i])))
+        .collect();
+    let mut freeboard = linear(&l, &points);
+
+    // 29
+    if ship.kind == Kind::B && l < whole(100) && e < over(35, 100) * &l {
+        freeboard = freeboard + over(75, 10) * (whole(100) - &l) * (over(35, 100) - &e / &l);
+    }
+
+    // 30
+    if cb > over(68, 100) {
+        freeboard = freeboard * (&cb + over(68, 100)) / over(136, 100);
+    }
+
+    // 31
+    let fifteenth = &l / whole(15);
+    if d > fifteenth {
+        let r = if l < whole(120) { &l / over(48, 100) } else { whole(250) };
+        freeboard = freeboard + (d - fifteenth) * r;
+    }
+
+    // 37
+    let long_enough =
+        forecastle.is_some_and(|house| effective_length(house, &l) >= over(7, 100) * &l);
+    if ship.kind == Kind::A || long_enough {
+        let full = [(24, 350), (85, 860), (122, 1070)].map(|(at, mm)| (whole(at), whole(mm)));
+        let share = [0, 70, 140, 210, 310, 410, 520, 630, 753, 877, 1000];
+        let share: Vec<_> =
+            (0..).zip(share).map(|(tenth, mille)| (over(tenth, 10), over(mille, 1000))).collect();
+        freeboard = freeboard - linear(&l, &full) * linear(&(&e / &l), &share);
+    }
+
+    // 38
+    let mean = mean_excess_of_sheer(&ship.sheer, &l);
+    let by_factor = &mean * (over(3, 4) - &s / (whole(2) * &l));
+    let corrected = if mean.is_negative() {
+        freeboard - by_factor
+    } else {
+        freeboard - (by_factor * cover(ship, &l)).min(over(125, 100) * &l)
+    };
+
+    // 39
+    let x = &l / whole(100);
+    let b1 = whole(6075) * &x - whole(1875) * &x * &x + whole(200) * &x * &x * &x;
+    let d1 = over(85, 100) * over(ship.moulded, 1000);
+    let b2 = over(208, 100) + over(609, 1000) * &cb
+        - over(1603, 1000) * over(ship.cwf, 10_000)
+        - over(129, 10_000) * &l / d1;
+    let mut bow = b1 * b2;
+    if ship.sheer[4] > 0 {
+        bow = bow - whole(ship.sheer[5]);
+    }
+    if let Some(house) = forecastle {
+        if plain_length(house, &l) >= over(7, 100) * &l {
+            bow = bow - whole(house.height);
+        }
+    }
+
+    // 40
+    let summer = corrected.clone().max(bow.clone()).max(whole(50));
+    Exact { corrected, bow, summer }
+}
+
+/// 34: the part between the perpendiculars, m.
+fn plain_length(house: &House, l: &Fraction) -> Fraction {
+    over(house.fore, 1000).min(l.clone()) - over(house.aft, 1000).max(whole(0))
+}
+
+/// 33 and 35: effective length, m.
+fn effective_length(house: &House, l: &Fraction) -> Fraction {
+    let points: &[(i64, i64)] = match house.quarterdeck {
+        true => &[(30, 900), (75, 1200), (125, 1800)],
+        false => &[(75, 1800), (125, 2300)],
+    };
+    let points: Vec<_> = points.iter().map(|&(at, mm)| (whole(at), whole(mm))).collect();
+    let ratio = (whole(house.height) / linear(l, &points)).min(whole(1));
+    let length = plain_length(house, l);
+    match house.quarterdeck {
+        true => length.min(over(6, 10) * l) * ratio,
+        false => length * ratio,
+    }
+}
+
+/// 38(8) to (11): mean excess of sheer, mm.
+fn mean_excess_of_sheer(sheer: &[i64; 6], l: &Fraction) -> Fraction {
+    let u = l / whole(3) + whole(10);
+    // Standard ordinates in tenths of u, and their multipliers; amidships is 0.
+    let after = [(250, 1), (111, 3), (28, 3)];
+    let forward = [(56, 3), (222, 3), (500, 1)];
+    // Sums of the standard and of the actual ordinates, each times its multiplier.
+    let sums = |half: &[(i64, i64); 3], ordinates: &[i64]| {
+        let standard: i64 = half.iter().map(|(tenths, times)| tenths * times).sum();
+        let actual: i64 = half.iter().zip(ordinates).map(|((_, times), mm)| times * mm).sum();
+        (over(standard, 10) * &u, whole(actual))
+    };
+    let (after_standard, after_actual) = sums(&after, &sheer[..3]);
+    let (forward_standard, forward_actual) = sums(&forward, &sheer[3..]);
+    let mut after_excess = (&after_actual - &after_standard) / whole(8);
+    let mut forward_excess = (forward_actual - forward_standard) / whole(8);
+    let zero = whole(0);
+    if after_excess > zero && forward_excess < zero {
+        after_excess = zero;
+    } else if after_excess < zero && forward_excess > zero {
+        let credit = [(over(50, 100), whole(0)), (over(75, 100), whole(1))];
+        forward_excess = forward_excess * linear(&(after_actual / after_standard), &credit);
+    }
+    (after_excess + forward_excess) / whole(2)
+}
+
+/// 38(16): cover amidships, 0 to 1.
+fn cover(ship: &Ship, l: &Fraction) -> Fraction {
+    let middle = l / whole(2);
+    let most = l / whole(10);
+    let reaches: Fraction = ship
+        .houses
+        .iter()
+        .filter(|house| house.enclosed)
+        .map(|house| (over(house.aft, 1000), over(house.fore, 1000)))
+        .filter(|(aft, fore)| *aft <= middle && *fore >= middle)
+        .map(|(aft, fore)| (fore - &middle).min(most.clone()) + (&middle - aft).min(most.clone()))
+        .sum();
+    reaches / (over(2, 10) * l)
+}
+
+/// The promise on the summer mark: exact <= S < exact + 1.1 mm.
+pub fn bound_holds(ship: &Ship) -> bool {
+    let mark = whole(marks::steps(ship).summer);
+    let exact = exact(ship).summer;
+    exact <= mark && mark < exact + over(11, 10)
+}
+
+/// What the roundings cost on this ship.
+pub fn cost(ship: &Ship) -> Cost {
+    let steps = marks::steps(ship);
+    let exact = exact(ship);
+    let above = |um: i128, exact: &Fraction| (whole(um) - exact * whole(1000)).to_f64();
+    Cost {
+        mark: above(1000 * steps.summer, &exact.summer),
+        summer: above(
+            steps.corrected.max(steps.bow),
+            &exact.corrected.clone().max(exact.bow.clone()),
+        ),
+        corrected: above(steps.corrected, &exact.corrected),
+        bow: above(steps.bow, &exact.bow),
+    }
+}

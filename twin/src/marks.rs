@@ -1,0 +1,333 @@
+//! The six ordinary marks, with the roundings that a mark is worked with.
+//!
+//! "Up" and "down" are toward plus and minus infinity, to whole um.
+
+use std::fmt;
+
+use crate::record::{House, Kind, Ship};
+use crate::refusal::Refusal;
+use crate::table28;
+
+/// The six marks, mm below the deck line. The two fresh water marks may be negative.
+#[derive(Clone, Copy, Debug, PartialEq, Eq)]
+pub struct Marks {
+    pub summer: i128,
+    pub tropical: i128,
+    pub winter: i128,
+    pub winter_north_atlantic: i128,
+    pub fresh: i128,
+    pub tropical_fresh: i128,
+}
+
+impl fmt::Display for Marks {
+    fn fmt(&self, f: &mut fmt::Formatter) -> fmt::Result {
+        write!(
+            f,
+            "S {} T {} W {} WNA {} F {} TF {}",
+            self.summer,
+            self.tropical,
+            self.winter,
+            self.winter_north_atlantic,
+            self.fresh,
+            self.tropical_fresh
+        )
+    }
+}
+
+/// Every step on the way to the summer mark; um unless said otherwise.
+#[derive(Clone, Debug, PartialEq, Eq)]
+pub struct Steps {
+    /// S, mm: length of the enclosed houses within L.
+    pub covered: i128,
+    /// E: effective length of the enclosed houses.
+    pub effective: i128,
+    /// The house that is the forecastle.
+    pub forecastle: Option<usize>,
+    /// Regulation 28.
+    pub table: i128,
+    /// Regulation 29.
+    pub short_b: i128,
+    /// Table and addition for short B ships, after regulation 30.
+    pub fullness: i128,
+    /// Regulation 31.
+    pub depth: i128,
+    /// Regulation 37.
+    pub deduction: i128,
+    /// Regulation 38: mean excess of sheer, negative if deficient.
+    pub sheer_mean: i128,
+    /// Tenths of mm that houses reach before and abaft amidships, at most 2 L in mm.
+    pub cover_reach: i128,
+    pub sheer_added: i128,
+    pub sheer_deducted: i128,
+    /// Freeboard after regulations 28 to 38.
+    pub corrected: i128,
+    /// Regulation 39: bow height asked for.
+    pub bow_height: i128,
+    /// Freeboard that gives this bow height.
+    pub bow: i128,
+    /// Regulation 40: the summer mark, mm.
+    pub summer: i128,
+}
+
+/// Quotient rounded down; the divisor is above zero.
+fn down(number: i128, divisor: i128) -> i128 {
+    number.div_euclid(divisor)
+}
+
+/// Quotient rounded up; the divisor is above zero.
+fn up(number: i128, divisor: i128) -> i128 {
+    -down(-number, divisor)
+}
+
+/// The six marks, or refusal 12 or 13.
+pub fn marks(ship: &Ship) -> Result<Marks, Refusal> {
+    let summer = steps(ship).summer;
+    let draught = i128::from(ship.depth) - summer;
+    Refusal::unless(draught > 0, Refusal::MARK_AT_DECK)?;
+    let (displacement, immersion) = (i128::from(ship.displacement), i128::from(ship.immersion));
+    // 40(7), and 40(8) if not certified.
+    let allowance = match immersion {
+        0 => down(draught, 48),
+        _ => down(25 * displacement, immersion),
+    };
+    Refusal::unless(allowance <= draught, Refusal::FRESH_ALLOWANCE)?;
+    let tropical = (summer - down(draught, 48)).max(50); // 40(3), 40(4)
+    let winter = summer + up(draught, 48); // 40(5)
+    Ok(Marks {
+        summer,
+        tropical,
+        winter,
+        winter_north_atlantic: if ship.length <= 100_000 { winter + 50 } else { winter }, // 40(6)
+        fresh: summer - allowance,
+        tropical_fresh: tropical - allowance,
+    })
+}
+
+/// The steps to the summer mark.
+pub fn steps(ship: &Ship) -> Steps {
+    let length = i128::from(ship.length);
+    let covered = enclosed(ship).map(|(_, house)| length_within(house, length)).sum();
+    let effective = enclosed(ship).map(|(_, house)| effective_length(house, length)).sum();
+    let forecastle = enclosed(ship).find(|(_, h)| h.fore >= ship.length).map(|(i, _)| i);
+    let table = tabular(ship.kind, length);
+    let short_b = short_b_addition(ship.kind, length, effective);
+    let fullness = after_fullness(ship, table + short_b);
+    let depth = depth_addition(length, i128::from(ship.depth));
+    let deduction = houses_deduction(ship, length, effective, forecastle);
+    let sheer_mean = mean_excess_of_sheer(&ship.sheer, length);
+    let cover_reach = cover_reach(ship, length);
+    let (sheer_added, sheer_deducted) = sheer_correction(sheer_mean, length, covered, cover_reach);
+    let corrected = fullness + depth - deduction + sheer_added - sheer_deducted;
+    let bow_height = bow_height(ship, length);
+    let bow = bow_height - bow_credit(ship, forecastle);
+    let summer = up(corrected.max(bow), 1000).max(50);
+    Steps {
+        covered,
+        effective,
+        forecastle,
+        table,
+        short_b,
+        fullness,
+        depth,
+        deduction,
+        sheer_mean,
+        cover_reach,
+        sheer_added,
+        sheer_deducted,
+        corrected,
+        bow_height,
+        bow,
+        summer,
+    }
+}
+
+/// The enclosed houses with their places in the list; no other counts (35(5)).
+fn enclosed(ship: &Ship) -> impl Iterator<Item = (usize, &House)> {
+    ship.houses.iter().enumerate().filter(|(_, house)| house.enclosed)
+}
+
+/// Regulation 34: the part between the perpendiculars, mm.
+fn length_within(house: &House, length: i128) -> i128 {
+    i128::from(house.fore).min(length) - i128::from(house.aft).max(0)
+}
+
+/// Regulation 33: standard height in mm as a fraction, from L in mm.
+pub fn standard_height(quarterdeck: bool, length: i128) -> (i128, i128) {
+    match (quarterdeck, length) {
+        (true, ..30_000) => (900, 1),
+        (true, 30_000..75_000) => (length + 105_000, 150),
+        (true, 75_000..125_000) => (3 * length + 75_000, 250),
+        (true, 125_000..) => (1_800, 1),
+        (false, ..75_000) => (1_800, 1),
+        (false, 75_000..125_000) => (length + 105_000, 100),
+        (false, 125_000..) => (2_300, 1),
+    }
+}
+
+/// Regulation 35: effective length, um, down.
+fn effective_length(house: &House, length: i128) -> i128 {
+    let mut whole = 1000 * length_within(house, length);
+    if house.quarterdeck {
+        whole = whole.min(600 * length); // 35(4): 0.6 L
+    }
+    let (standard, parts) = standard_height(house.quarterdeck, length);
+    let height = i128::from(house.height) * parts;
+    if height < standard {
+        down(whole * height, standard)
+    } else {
+        whole
+    }
+}
+
+/// Regulation 28: row value, linear between rows; exact.
+pub fn tabular(kind: Kind, length: i128) -> i128 {
+    let rows = match kind {
+        Kind::A => &table28::TYPE_A,
+        Kind::B => &table28::TYPE_B,
+    };
+    let row = (length / 1000) as usize - table28::FIRST;
+    let value = i128::from(rows[row]);
+    let next = i128::from(rows[(row + 1).min(table28::ROWS - 1)]);
+    1000 * value + (next - value) * (length % 1000)
+}
+
+/// Regulation 29: 7.5 (100 - L) (0.35 - E/L), up.
+fn short_b_addition(kind: Kind, length: i128, effective: i128) -> i128 {
+    if kind == Kind::B && length < 100_000 && effective < 350 * length {
+        up(3 * (100_000 - length) * (350 * length - effective), 400 * length)
+    } else {
+        0
+    }
+}
+
+/// Cb in 1/10000, never above 1.0 (30).
+fn limited_cb(ship: &Ship) -> i128 {
+    i128::from(ship.cb).min(10_000)
+}
+
+/// Regulation 30: times (Cb + 0.68) / 1.36 above 0.68, up.
+fn after_fullness(ship: &Ship, freeboard: i128) -> i128 {
+    match limited_cb(ship) {
+        ..=6_800 => freeboard,
+        cb => up(freeboard * (cb + 6_800), 13_600),
+    }
+}
+
+/// Regulation 31: (D - L/15) R, up, where D is above L/15.
+pub fn depth_addition(length: i128, depth: i128) -> i128 {
+    let excess = (15 * depth - length).max(0); // fifteenths of a mm
+    if length < 120_000 {
+        up(excess * length, 7_200)
+    } else {
+        up(excess * 50, 3)
+    }
+}
+
+/// Regulation 37: the percentages at each tenth of E/L, in tenths of a per cent.
+const PERCENTAGES: [i128; 11] = [0, 70, 140, 210, 310, 410, 520, 630, 753, 877, 1000];
+
+/// Regulation 37(1): deduction where E is L, down.
+fn full_deduction(length: i128) -> i128 {
+    match length {
+        ..85_000 => 350_000 + down(510 * (length - 24_000), 61),
+        85_000..122_000 => 860_000 + down(210 * (length - 85_000), 37),
+        122_000.. => 1_070_000,
+    }
+}
+
+/// Regulation 37(2): the share of the full deduction in millionths, down.
+fn deduction_share(length: i128, effective: i128) -> i128 {
+    let tenth = 100 * length; // 0.1 L in um
+    let (below, beyond) = (effective / tenth, effective % tenth);
+    match PERCENTAGES[below as usize..] {
+        [low, high, ..] => 1000 * low + down(1000 * (high - low) * beyond, tenth),
+        _ => 1_000_000,
+    }
+}
+
+/// Regulation 37: what the houses take off, down.
+fn houses_deduction(ship: &Ship, length: i128, effective: i128, forecastle: Option<usize>) -> i128 {
+    // 37(3). 0.07 L is a whole number of um, so rounding down hides no length below it.
+    let long_enough = forecastle
+        .is_some_and(|place| effective_length(&ship.houses[place], length) >= 70 * length);
+    if ship.kind == Kind::A || long_enough {
+        down(full_deduction(length) * deduction_share(length, effective), 1_000_000)
+    } else {
+        0
+    }
+}
+
+/// Regulation 38(8) to (11): mean excess of sheer over both halves, down.
+fn mean_excess_of_sheer(sheer: &[i64; 6], length: i128) -> i128 {
+    let [ap, ap_sixth, ap_third, fp_third, fp_sixth, fp] = sheer.map(i128::from);
+    // Sums are in 1/30000 mm: the standard after sum is 66.7 (L/3 + 10), the forward twice that.
+    let standard = 667 * (length + 30_000);
+    let after_sum = 30_000 * (ap + 3 * ap_sixth + 3 * ap_third);
+    let forward_sum = 30_000 * (3 * fp_third + 3 * fp_sixth + fp);
+    let mut after = after_sum - standard;
+    let mut forward = forward_sum - 2 * standard;
+    // What of the forward half counts, in parts of `standard`.
+    let mut credit = standard;
+    if after > 0 && forward < 0 {
+        after = 0; // 38(10)
+    } else if forward > 0 && after < 0 {
+        // 38(11): none at 50% of the standard after sum, all at 75%.
+        credit = (4 * after_sum - 2 * standard).clamp(0, standard);
+    }
+    forward *= credit;
+    after *= standard;
+    // 1/30000 mm is 1/30 um; an eighth of each sum, and half of the two.
+    down(after + forward, 30 * 8 * 2 * standard)
+}
+
+/// Regulation 38(16): tenths of mm that enclosed houses reach before and abaft amidships, each
+/// reach limited to 0.1 L.
+fn cover_reach(ship: &Ship, length: i128) -> i128 {
+    enclosed(ship)
+        .map(|(_, house)| {
+            let before = 10 * i128::from(house.fore) - 5 * length;
+            let abaft = 5 * length - 10 * i128::from(house.aft);
+            if before >= 0 && abaft >= 0 {
+                before.min(length) + abaft.min(length)
+            } else {
+                0
+            }
+        })
+        .sum()
+}
+
+/// Regulation 38(14) to (16): what is added, up, and what is deducted, down.
+fn sheer_correction(mean: i128, length: i128, covered: i128, reach: i128) -> (i128, i128) {
+    // 0.75 - S/2L is (3L - 2S) / 4L; the cover is the reach over 2L tenths.
+    let part = 3 * length - 2 * covered;
+    if mean < 0 {
+        (up(-mean * part, 4 * length), 0)
+    } else {
+        let excess = down(mean * part * reach, 4 * length * 2 * length);
+        (0, excess.min(down(5 * length, 4)))
+    }
+}
+
+/// Regulation 39(1): bow height, up.
+fn bow_height(ship: &Ship, length: i128) -> i128 {
+    let moulded = i128::from(ship.moulded);
+    // b2 in millionths, over 170 M: 0.0129 L / (0.85 M) is 2580000 L / (170 M) millionths.
+    let coefficients = 20_800_000 + 609 * limited_cb(ship) - 1_603 * i128::from(ship.cwf);
+    let b2 = up(17 * moulded * coefficients - 2_580_000 * length, 170 * moulded);
+    // b1 in um, over 5e9.
+    let cubic = 303_750_000_000 * length - 937_500 * length.pow(2) + length.pow(3);
+    let b1 = if b2 >= 0 { up(cubic, 5_000_000_000) } else { down(cubic, 5_000_000_000) };
+    up(b1 * b2, 1_000_000)
+}
+
+/// Regulation 39(2): bow height that sheer and forecastle give.
+fn bow_credit(ship: &Ship, forecastle: Option<usize>) -> i128 {
+    let [.., sixth, perpendicular] = ship.sheer;
+    let sheer = if sixth > 0 { perpendicular } else { 0 };
+    let length = i128::from(ship.length);
+    let height = forecastle
+        .map(|place| &ship.houses[place])
+        .filter(|house| 100 * length_within(house, length) >= 7 * length)
+        .map_or(0, |house| house.height);
+    1000 * (i128::from(sheer) + i128::from(height))
+}

@@ -1,0 +1,30 @@
+//! The question: the shortest poop that brings the summer mark down to a wish.
+
+use crate::marks;
+use crate::record::{self, House, Ship, MAX_HOUSES};
+use crate::refusal::Refusal;
+
+/// The shortest poop in dm, from a record: refusals 1 to 11, then 14, 15, 16.
+pub fn shortest_poop(bytes: &[u8], height: u64, wish: u64) -> Result<i64, Refusal> {
+    let ship = record::read(bytes)?;
+    let asked_well = (1..=8_191).contains(&height) && (50..=60_000).contains(&wish);
+    Refusal::unless(asked_well, Refusal::ASKED)?;
+    let full = ship.houses.len() == MAX_HOUSES;
+    let taken = ship.houses.first().is_some_and(|house| house.aft <= 0);
+    Refusal::unless(!full && !taken, Refusal::NO_ROOM)?;
+    // A longer poop can raise the mark, so every length is tried.
+    (0..=ship.length / 100)
+        .find(|&k| summer_with_poop(&ship, height, k).is_ok_and(|mark| mark <= wish.into()))
+        .ok_or(Refusal::at(Refusal::NOTHING_FITS, 0))
+}
+
+/// The summer mark with a poop of k dm before the other houses, or one of refusals 9 to 13.
+pub fn summer_with_poop(ship: &Ship, height: u64, k: i64) -> Result<i128, Refusal> {
+    let poop = House { enclosed: true, quarterdeck: false, aft: 0, fore: 100 * k, height };
+    let mut longer = ship.clone();
+    if k > 0 {
+        longer.houses.insert(0, poop);
+    }
+    record::check_houses(longer.length, &longer.houses)?;
+    marks::marks(&longer).map(|marks| marks.summer)
+}

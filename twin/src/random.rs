@@ -1,0 +1,132 @@
+//! Random ships from a seed, the same ones on every machine.
+
+use crate::record::{House, RawShip};
+
+/// A small generator (splitmix64).
+pub struct Random(u64);
+
+impl Random {
+    pub fn new(seed: u64) -> Random {
+        Random(seed)
+    }
+
+    pub fn number(&mut self) -> u64 {
+        self.0 = self.0.wrapping_add(0x9e37_79b9_7f4a_7c15);
+        let mut z = self.0;
+        z = (z ^ z >> 30).wrapping_mul(0xbf58_476d_1ce4_e5b9);
+        z = (z ^ z >> 27).wrapping_mul(0x94d0_49bb_1331_11eb);
+        z ^ z >> 31
+    }
+
+    /// A number from `low` to `high`, both included.
+    pub fn between(&mut self, low: i64, high: i64) -> i64 {
+        let count = (high - low + 1) as u64;
+        low + (self.number() % count) as i64
+    }
+
+    /// True once in `n` times.
+    pub fn once_in(&mut self, n: i64) -> bool {
+        self.between(1, n) == 1
+    }
+
+    fn pick<T: Copy>(&mut self, from: &[T]) -> T {
+        from[self.between(0, from.len() as i64 - 1) as usize]
+    }
+
+    /// A valid ship with `n` houses: borders of the rules often, anything else besides.
+    pub fn ship(&mut self, n: usize) -> RawShip {
+        loop {
+            let raw = self.attempt(n);
+            if raw.check().is_ok() {
+                return raw;
+            }
+        }
+    }
+
+    fn attempt(&mut self, n: usize) -> RawShip {
+        const LENGTHS: [i64; 12] = [
+            24_000, 30_000, 75_000, 85_000, 99_999, 100_000, 120_000, 122_000, 125_000, 61_500,
+            364_999, 365_000,
+        ];
+        let length = match self.between(1, 6) {
+            1 => self.pick(&LENGTHS),
+            2 | 3 => self.between(24_000, 125_000),
+            _ => self.between(24_000, 365_000),
+        };
+        let depth = match self.between(1, 4) {
+            1 => self.between(1_000, 60_000),
+            2 => (length / 15 + self.between(-2, 2)).max(1_000),
+            _ => (length / 15 * self.between(60, 180) / 100).max(1_000),
+        };
+        let moulded = if self.once_in(2) { depth } else { self.between(1_000, 60_000) };
+        let certified = self.once_in(2);
+        let mut raw = RawShip {
+            kind: self.between(0, 1) as u64,
+            n: n as u64,
+            length: length as u64,
+            depth: depth as u64,
+            moulded: moulded as u64,
+            cb: match self.between(1, 4) {
+                1 => self.pick(&[1, 6_800, 6_801, 10_000, 10_001, 12_000]),
+                2 => self.between(1, 12_000) as u64,
+                _ => self.between(5_000, 9_500) as u64,
+            },
+            cwf: match self.between(1, 4) {
+                1 => self.between(1, 10_000) as u64,
+                _ => self.between(6_500, 10_000) as u64,
+            },
+            sheer: self.sheer(length),
+            displacement: if certified { self.between(1, 200_000) as u64 } else { 0 },
+            immersion: if certified { self.between(1, 65_535) as u64 } else { 0 },
+            ..RawShip::default()
+        };
+        self.put_houses(&mut raw.houses[..n], length);
+        raw
+    }
+
+    /// Ordinates near the standard ones, anything, or none.
+    fn sheer(&mut self, length: i64) -> [i64; 6] {
+        let near = |random: &mut Random, ordinate: i64, per_cent: i64| {
+            ordinate * per_cent / 100 + random.between(-20, 20)
+        };
+        let u = (length + 30_000) / 3_000;
+        let (after, forward) = (self.between(30, 180), self.between(60, 180));
+        match self.between(1, 6) {
+            1 => [0; 6],
+            2 => std::array::from_fn(|_| self.between(-8_192, 8_191)),
+            _ => [
+                near(self, 25 * u, after),
+                near(self, 111 * u / 10, after),
+                near(self, 28 * u / 10, after),
+                near(self, 56 * u / 10, forward),
+                near(self, 222 * u / 10, forward),
+                near(self, 50 * u, forward).min(8_191),
+            ],
+        }
+    }
+
+    /// Houses in order between cuts of the deck; some touch, some stand at a border.
+    fn put_houses(&mut self, houses: &mut [House], length: i64) {
+        let borders =
+            [-20_000, 0, length / 10, length / 2, length * 6 / 10, length * 93 / 100, length];
+        let mut cuts: Vec<i64> = (0..2 * houses.len())
+            .map(|_| match self.between(1, 4) {
+                1 => self.pick(&borders),
+                _ => self.between(-2_000, length + 2_000),
+            })
+            .collect();
+        cuts.sort_unstable();
+        for (i, house) in houses.iter_mut().enumerate() {
+            let touching = i > 0 && self.once_in(4);
+            house.aft = if touching { cuts[2 * i - 1] } else { cuts[2 * i] };
+            house.fore = cuts[2 * i + 1];
+            house.height = match self.between(1, 3) {
+                1 => self.between(1, 8_191) as u64,
+                _ => self.between(500, 2_600) as u64,
+            };
+            house.enclosed = !self.once_in(6);
+            house.quarterdeck =
+                house.enclosed && house.aft <= 0 && house.fore < length && self.once_in(2);
+        }
+    }
+}

@@ -1,0 +1,243 @@
+//! The ship record, version 1: 27 bytes, then 8 for each house, bit-packed.
+
+use crate::bits::{BitReader, BitWriter};
+use crate::refusal::Refusal;
+
+pub const VERSION: u64 = 1;
+/// Most houses a ship holds.
+pub const MAX_HOUSES: usize = 8;
+pub const HEADER_BYTES: usize = 27;
+pub const HOUSE_BYTES: usize = 8;
+
+/// Type of ship; the number is the one in the record.
+#[derive(Clone, Copy, Debug, PartialEq, Eq)]
+pub enum Kind {
+    A = 0,
+    B = 1,
+}
+
+/// A house on the freeboard deck. Stations in mm forward of the after perpendicular.
+#[derive(Clone, Copy, Debug, Default, PartialEq, Eq)]
+pub struct House {
+    pub enclosed: bool,
+    pub quarterdeck: bool,
+    pub aft: i64,
+    pub fore: i64,
+    pub height: u64,
+}
+
+/// A ship as someone states it. Nothing has been checked: any number may stand anywhere.
+#[derive(Clone, Debug, Default)]
+pub struct RawShip {
+    pub kind: u64,
+    /// Houses that count; the places beyond are ignored.
+    pub n: u64,
+    /// L, mm (field 1).
+    pub length: u64,
+    /// D, depth for freeboard, mm (field 2).
+    pub depth: u64,
+    /// M, least moulded depth, mm (field 3).
+    pub moulded: u64,
+    /// Block coefficient, 1/10000 (field 4).
+    pub cb: u64,
+    /// Waterplane coefficient forward, 1/10000 (field 5).
+    pub cwf: u64,
+    /// Ordinates of sheer, mm, from the after to the forward perpendicular (fields 6 to 11).
+    pub sheer: [i64; 6],
+    /// Displacement, t; 0 if not certified (field 12).
+    pub displacement: u64,
+    /// Immersion, 1/100 t per cm; 0 if not certified (field 13).
+    pub immersion: u64,
+    pub houses: [House; MAX_HOUSES],
+}
+
+/// A ship that passed refusals 3, 4 and 7 to 11.
+#[derive(Clone, Debug, PartialEq, Eq)]
+pub struct Ship {
+    pub kind: Kind,
+    pub length: i64,
+    pub depth: i64,
+    pub moulded: i64,
+    pub cb: i64,
+    pub cwf: i64,
+    pub sheer: [i64; 6],
+    pub displacement: i64,
+    pub immersion: i64,
+    /// The houses in order from aft.
+    pub houses: Vec<House>,
+}
+
+/// Bytes of a record with `n` houses.
+pub fn record_bytes(n: usize) -> usize {
+    HEADER_BYTES + HOUSE_BYTES * n
+}
+
+/// Reads a record: refusals 1 to 11.
+pub fn read(bytes: &[u8]) -> Result<Ship, Refusal> {
+    Refusal::unless(bytes.len() >= HEADER_BYTES, Refusal::SHORT_RECORD)?;
+    let mut header = BitReader::new(&bytes[..HEADER_BYTES]);
+    let version = header.take(4);
+    let kind = header.take(2);
+    let n = header.take(4);
+    let mut spare = header.take(6);
+    Refusal::unless(version == VERSION, Refusal::VERSION)?;
+    let (_, count) = kind_and_count(kind, n)?;
+    Refusal::unless(bytes.len() == record_bytes(count), Refusal::RECORD_LENGTH)?;
+
+    let mut raw = RawShip {
+        kind,
+        n,
+        length: header.take(20),
+        depth: header.take(16),
+        moulded: header.take(16),
+        cb: header.take(14),
+        cwf: header.take(14),
+        sheer: std::array::from_fn(|_| header.take_signed(14)),
+        displacement: header.take(20),
+        immersion: header.take(16),
+        ..RawShip::default()
+    };
+    let parts = bytes[HEADER_BYTES..].chunks_exact(HOUSE_BYTES);
+    for (house, part) in raw.houses.iter_mut().zip(parts) {
+        let mut fields = BitReader::new(part);
+        *house = House {
+            enclosed: fields.take(1) == 1,
+            quarterdeck: fields.take(1) == 1,
+            aft: fields.take_signed(21),
+            fore: fields.take_signed(21),
+            height: fields.take(13),
+        };
+        spare |= fields.take(7);
+    }
+    Refusal::unless(spare == 0, Refusal::SPARE_BIT)?;
+    raw.check()
+}
+
+/// Writes a ship: refusals 3, 4, 7 to 11 and 17. Gives the record's length. A refusal changes no
+/// byte; an accepted write changes the record's bytes only.
+pub fn write(buffer: &mut [u8], raw: &RawShip) -> Result<usize, Refusal> {
+    let ship = raw.check()?;
+    let length = record_bytes(ship.houses.len());
+    let record = buffer.get_mut(..length).ok_or(Refusal::at(Refusal::SHORT_BUFFER, 0))?;
+    pack(record, raw);
+    Ok(length)
+}
+
+/// Puts the fields' low bits in their places, unchecked. The record is 27+8n bytes.
+pub fn pack(record: &mut [u8], raw: &RawShip) {
+    let (header, houses) = record.split_at_mut(HEADER_BYTES);
+    let mut fields = BitWriter::new(header);
+    fields.put(4, VERSION);
+    fields.put(2, raw.kind);
+    fields.put(4, raw.n);
+    fields.put(6, 0);
+    fields.put(20, raw.length);
+    fields.put(16, raw.depth);
+    fields.put(16, raw.moulded);
+    fields.put(14, raw.cb);
+    fields.put(14, raw.cwf);
+    for ordinate in raw.sheer {
+        fields.put_signed(14, ordinate);
+    }
+    fields.put(20, raw.displacement);
+    fields.put(16, raw.immersion);
+    for (part, house) in houses.chunks_exact_mut(HOUSE_BYTES).zip(&raw.houses) {
+        let mut fields = BitWriter::new(part);
+        fields.put(1, house.enclosed.into());
+        fields.put(1, house.quarterdeck.into());
+        fields.put_signed(21, house.aft);
+        fields.put_signed(21, house.fore);
+        fields.put(13, house.height);
+        fields.put(7, 0);
+    }
+}
+
+impl RawShip {
+    /// The ship, if it passes refusals 3, 4 and 7 to 11.
+    pub fn check(&self) -> Result<Ship, Refusal> {
+        let (kind, count) = kind_and_count(self.kind, self.n)?;
+        self.check_fields()?;
+        let certified = (self.displacement != 0, self.immersion != 0);
+        Refusal::unless(certified.0 == certified.1, Refusal::HALF_CERTIFIED)?;
+        let houses = &self.houses[..count];
+        check_houses(self.length as i64, houses)?;
+        // All fields are below 2^20 by now.
+        Ok(Ship {
+            kind,
+            length: self.length as i64,
+            depth: self.depth as i64,
+            moulded: self.moulded as i64,
+            cb: self.cb as i64,
+            cwf: self.cwf as i64,
+            sheer: self.sheer,
+            displacement: self.displacement as i64,
+            immersion: self.immersion as i64,
+            houses: houses.to_vec(),
+        })
+    }
+
+    /// Refusal 7, the lowest field outside its range or bits.
+    fn check_fields(&self) -> Result<(), Refusal> {
+        let first_five = [
+            (24_000..=365_000).contains(&self.length),
+            (1_000..=60_000).contains(&self.depth),
+            (1_000..=60_000).contains(&self.moulded),
+            (1..=12_000).contains(&self.cb),
+            (1..=10_000).contains(&self.cwf),
+        ];
+        let sheer = self.sheer.map(|ordinate| (-8_192..=8_191).contains(&ordinate));
+        let certified = [self.displacement < 1 << 20, self.immersion < 1 << 16];
+        let all = first_five.into_iter().chain(sheer).chain(certified);
+        Refusal::first_false(Refusal::FIELD, (1..).zip(all))
+    }
+}
+
+impl Ship {
+    /// The same ship as numbers to write; the places beyond the last house are zero.
+    pub fn raw(&self) -> RawShip {
+        let mut raw = RawShip {
+            kind: self.kind as u64,
+            n: self.houses.len() as u64,
+            length: self.length as u64,
+            depth: self.depth as u64,
+            moulded: self.moulded as u64,
+            cb: self.cb as u64,
+            cwf: self.cwf as u64,
+            sheer: self.sheer,
+            displacement: self.displacement as u64,
+            immersion: self.immersion as u64,
+            ..RawShip::default()
+        };
+        raw.houses[..self.houses.len()].copy_from_slice(&self.houses);
+        raw
+    }
+}
+
+/// Refusals 3 and 4.
+fn kind_and_count(kind: u64, n: u64) -> Result<(Kind, usize), Refusal> {
+    let kind = match kind {
+        0 => Kind::A,
+        1 => Kind::B,
+        _ => return Err(Refusal::at(Refusal::KIND, 0)),
+    };
+    Refusal::unless(n <= MAX_HOUSES as u64, Refusal::TOO_MANY_HOUSES)?;
+    Ok((kind, n as usize))
+}
+
+/// Refusals 9, 10 and 11, each over all the houses before the next.
+pub fn check_houses(length: i64, houses: &[House]) -> Result<(), Refusal> {
+    let sound = |h: &House| {
+        h.fore > h.aft
+            && h.fore > 0
+            && h.aft < length
+            && h.aft >= -20_000
+            && h.fore <= length + 20_000
+            && (1..=8_191).contains(&h.height)
+    };
+    let quarterdeck_sound =
+        |h: &House| !h.quarterdeck || (h.enclosed && h.aft <= 0 && h.fore < length);
+    Refusal::first_false(Refusal::HOUSE, houses.iter().map(sound).enumerate())?;
+    Refusal::first_false(Refusal::QUARTERDECK, houses.iter().map(quarterdeck_sound).enumerate())?;
+    let apart = houses.windows(2).map(|pair| pair[1].aft >= pair[0].fore);
+    Refusal::first_false(Refusal::OVERLAP, (1..).zip(apart))
+}

@@ -1,0 +1,126 @@
+//! The lines that the programs print.
+
+use std::fmt::Write;
+
+use crate::record::{self, House, RawShip, Ship, MAX_HOUSES};
+
+/// What a buffer holds before a write.
+const FILL: u8 = 0xa5;
+/// Buffer that a ship just read is written back into.
+const BUFFER: usize = 128;
+
+/// One line on a record: the refusal, or the ship and whether writing it gives the record back.
+pub fn record_line(bytes: &[u8]) -> String {
+    match record::read(bytes) {
+        Err(refusal) => refusal.to_string(),
+        Ok(ship) => {
+            let end = if comes_back(&ship, bytes) { "back" } else { "changed" };
+            format!("{} {end}", ship_line(&ship))
+        }
+    }
+}
+
+fn ship_line(ship: &Ship) -> String {
+    let [a, b, c, d, e, f] = ship.sheer;
+    let mut line = format!(
+        "type {} L {} D {} M {} Cb {} Cwf {} sheer {a} {b} {c} {d} {e} {f} certified {} {} houses {}",
+        ship.kind as u8,
+        ship.length,
+        ship.depth,
+        ship.moulded,
+        ship.cb,
+        ship.cwf,
+        ship.displacement,
+        ship.immersion,
+        ship.houses.len()
+    );
+    for h in &ship.houses {
+        let (enclosed, quarterdeck) = (u8::from(h.enclosed), u8::from(h.quarterdeck));
+        let _ = write!(line, " [{enclosed} {quarterdeck} {} {} {}]", h.aft, h.fore, h.height);
+    }
+    line
+}
+
+/// Writing the ship gives the same bytes, and leaves the rest of the buffer as it was.
+fn comes_back(ship: &Ship, bytes: &[u8]) -> bool {
+    let mut buffer = [FILL; BUFFER];
+    record::write(&mut buffer, &ship.raw()) == Ok(bytes.len())
+        && buffer[..bytes.len()] == *bytes
+        && buffer[bytes.len()..].iter().all(|&byte| byte == FILL)
+}
+
+/// A write to be tried: how long the buffer is, and the ship.
+#[derive(Clone, Debug, Default)]
+pub struct Trial {
+    pub buffer: u64,
+    pub ship: RawShip,
+}
+
+const NUMBERS: usize = 16 + 5 * MAX_HOUSES;
+const SHEER_SHIFT: i64 = 8_192;
+const STATION_SHIFT: i64 = 1_048_576;
+
+impl Trial {
+    /// The trial as 56 numbers of 8 bytes, most significant first. Signed numbers are shifted.
+    pub fn to_bytes(&self) -> Vec<u8> {
+        let s = &self.ship;
+        let mut numbers = vec![self.buffer, s.kind, s.n, s.length, s.depth, s.moulded, s.cb, s.cwf];
+        numbers.extend(s.sheer.iter().map(|mm| mm.wrapping_add(SHEER_SHIFT) as u64));
+        numbers.extend([s.displacement, s.immersion]);
+        for h in &s.houses {
+            let station = |mm: i64| mm.wrapping_add(STATION_SHIFT) as u64;
+            let (enclosed, quarterdeck) = (h.enclosed.into(), h.quarterdeck.into());
+            numbers.extend([enclosed, quarterdeck, station(h.aft), station(h.fore), h.height]);
+        }
+        numbers.iter().flat_map(|number| number.to_be_bytes()).collect()
+    }
+
+    /// The other way; nothing if the bytes are not 56 numbers or the buffer is above 128 bytes.
+    pub fn from_bytes(bytes: &[u8]) -> Option<Trial> {
+        if bytes.len() != 8 * NUMBERS {
+            return None;
+        }
+        let mut numbers =
+            bytes.chunks_exact(8).map(|part| part.iter().fold(0, |n, &b| n << 8 | u64::from(b)));
+        let mut next = || numbers.next().unwrap_or(0);
+        let trial = Trial {
+            buffer: next(),
+            ship: RawShip {
+                kind: next(),
+                n: next(),
+                length: next(),
+                depth: next(),
+                moulded: next(),
+                cb: next(),
+                cwf: next(),
+                sheer: std::array::from_fn(|_| (next() as i64).wrapping_sub(SHEER_SHIFT)),
+                displacement: next(),
+                immersion: next(),
+                houses: std::array::from_fn(|_| House {
+                    enclosed: next() == 1,
+                    quarterdeck: next() == 1,
+                    aft: (next() as i64).wrapping_sub(STATION_SHIFT),
+                    fore: (next() as i64).wrapping_sub(STATION_SHIFT),
+                    height: next(),
+                }),
+            },
+        };
+        (trial.buffer <= BUFFER as u64).then_some(trial)
+    }
+
+    /// One line on the write: `written` or the refusal, then the whole buffer in hex.
+    pub fn line(&self) -> String {
+        let mut buffer = vec![FILL; self.buffer as usize];
+        let mut line = match record::write(&mut buffer, &self.ship) {
+            Ok(_) => "written".to_string(),
+            Err(refusal) => refusal.to_string(),
+        };
+        if !buffer.is_empty() {
+            line.push(' ');
+        }
+        for byte in buffer {
+            let _ = write!(line, "{byte:02x}");
+        }
+        line
+    }
+}

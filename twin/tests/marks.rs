@@ -1,0 +1,121 @@
+//! Steps and marks away from the stated figures.
+
+mod common;
+
+use common::{house, k1, k2, ship, with};
+use twin::marks::{marks, steps, Marks};
+use twin::random::Random;
+use twin::record::{House, RawShip};
+use twin::refusal::Refusal;
+
+/// S is the number of whole mm of L that some enclosed house covers.
+#[test]
+fn covered_length_is_a_count() {
+    let mut random = Random::new(34);
+    for _ in 0..200 {
+        let n = random.between(0, 8) as usize;
+        let ship = ship(&random.ship(n));
+        let covers =
+            |mm: i64| ship.houses.iter().any(|h: &House| h.enclosed && h.aft <= mm && mm < h.fore);
+        let count = (0..ship.length).filter(|&mm| covers(mm)).count();
+        assert_eq!(steps(&ship).covered, count as i128);
+    }
+}
+
+#[test]
+fn summer_mark_at_or_above_depth() {
+    let at = RawShip { depth: 2_030, ..k1() };
+    assert_eq!(marks(&ship(&at)), Err(Refusal::at(12, 0)));
+    let below = RawShip { depth: 2_031, ..k1() };
+    assert_eq!(marks(&ship(&below)).unwrap().summer, 2_030);
+}
+
+/// The draught of k2 is 4976 mm.
+#[test]
+fn fresh_allowance_above_draught() {
+    let certified = |displacement| RawShip { displacement, immersion: 25, ..k2() };
+    let Marks { fresh, tropical_fresh, .. } = marks(&ship(&certified(4_976))).unwrap();
+    assert_eq!((fresh, tropical_fresh), (1_024 - 4_976, 921 - 4_976));
+    assert_eq!(marks(&ship(&certified(4_977))), Err(Refusal::at(13, 0)));
+}
+
+#[test]
+fn fresh_allowance_is_rounded_down() {
+    let certified = RawShip { displacement: 7_000, immersion: 1_800, ..k2() };
+    assert_eq!(marks(&ship(&certified)).unwrap().fresh, 1_024 - 97); // 97.2
+}
+
+/// Type A, full house: the floor of 50 mm holds for S and for T.
+#[test]
+fn floor_of_fifty() {
+    let low = with(
+        RawShip { kind: 0, length: 60_000, depth: 4_000, moulded: 2_000, cwf: 10_000, ..k1() },
+        &[house(0, 60_000, 8_000)],
+    );
+    let marks = marks(&ship(&low)).unwrap();
+    assert_eq!(marks.to_string(), "S 50 T 50 W 133 WNA 183 F -32 TF -32");
+}
+
+#[test]
+fn winter_north_atlantic_ends_at_100_m() {
+    let of = |length| {
+        let Marks { winter, winter_north_atlantic, .. } =
+            marks(&ship(&RawShip { length, ..k1() })).unwrap();
+        winter_north_atlantic - winter
+    };
+    assert_eq!((of(100_000), of(100_001)), (50, 0));
+}
+
+/// 0.07 L is made on the effective length for the deduction, on the plain one for the bow.
+#[test]
+fn seven_hundredths() {
+    let fore = |aft, height| steps(&ship(&with(k1(), &[house(aft, 90_000, height)])));
+    // 0.07 L is 6300 mm, the standard height 1950.
+    assert!(fore(83_700, 1_950).deduction > 0);
+    assert_eq!(fore(83_701, 1_950).deduction, 0);
+    assert_eq!(fore(83_700, 1_949).deduction, 0);
+    assert_eq!(fore(83_700, 1_949).bow, 4_029_337 - 2_000_000 - 1_949_000);
+    assert_eq!(fore(83_701, 1_949).bow, 4_029_337 - 2_000_000);
+    // A type A ship needs no forecastle.
+    let poop = with(RawShip { kind: 0, ..k1() }, &[house(0, 10_000, 2_000)]);
+    assert_eq!(steps(&ship(&poop)).deduction, 69_095);
+}
+
+/// The limit of 0.6 L touches the effective length of a raised quarterdeck, not S.
+#[test]
+fn long_quarterdeck() {
+    let deck = House { quarterdeck: true, ..house(-1_000, 80_000, 8_000) };
+    let of = |deck| steps(&ship(&with(k1(), &[deck])));
+    assert_eq!((of(deck).covered, of(deck).effective), (80_000, 54_000_000));
+    let low = House { height: 690, ..deck };
+    assert_eq!(of(low).effective, 27_000_000); // standard height at 90 m: 1380 mm
+}
+
+/// Two houses that touch amidships both count; two that touch elsewhere do not join.
+#[test]
+fn cover_amidships() {
+    let reach = |houses: &[House]| steps(&ship(&with(k1(), houses))).cover_reach;
+    assert_eq!(reach(&[house(36_000, 45_000, 1), house(45_000, 54_000, 1)]), 180_000);
+    assert_eq!(reach(&[house(36_000, 46_000, 1), house(46_000, 54_000, 1)]), 100_000);
+    assert_eq!(reach(&[house(36_000, 44_999, 1)]), 0);
+    assert_eq!(reach(&[House { enclosed: false, ..house(36_000, 54_000, 1) }]), 0);
+    assert_eq!(reach(&[house(0, 90_000, 1)]), 180_000);
+}
+
+/// The mean is rounded toward minus infinity. Standard sums at 90 m: 2668 and 5336 mm.
+#[test]
+fn sheer_halves() {
+    let mean = |after, forward| {
+        let sheer = [after, 0, 0, 0, 0, forward];
+        steps(&ship(&RawShip { sheer, ..k1() })).sheer_mean
+    };
+    assert_eq!(mean(2_668, 5_336), 0);
+    assert_eq!(mean(2_668, 5_336 + 16), 1_000);
+    // After excess counts nothing: -1/16 mm forward.
+    assert_eq!(mean(2_669, 5_335), -63);
+    // A forward excess of 1/2 mm in the mean, whole at 75% of the after sum, nothing at 50%.
+    assert_eq!(mean(2_001, 5_344), -41_188); // -41687.5 + 500
+    assert_eq!(mean(1_334, 5_344), -83_375);
+    assert_eq!(mean(0, 5_344), -166_750);
+    assert_eq!(mean(1_667, 5_344), -62_313); // -62562.5 + 500 x 1332/2668
+}

@@ -1,12 +1,13 @@
 -- 01, "Ship record, version 1": bit-packed, most significant bit first, signed fields in two's complement.
-use Prim.Native.Nat.{ℕ, zero, suc, _+_, _-_, _*_, _%_}
+use Prim.Native.Nat.{ℕ, zero, suc, _+_, _-_, _*_, _%_, _<_}
 use mathlib.Core.Bool.{Bool, true, false}
 use mathlib.Core.List.{List, [], _∷_, _++_}
-use lib.ListN.{take, drop, getD, replicate}
+use lib.ListN.{length, take, drop, getD, replicate}
 use lib.Dec.{eqb}
 use Rattle.bits.specs.Fields.{number, unpack, pack, bytes}
 use Rattle.ship.specs.declared.House.{House}
 use Rattle.ship.specs.declared.Ship.{Ship}
+use Rattle.ship.specs.Vessel as Vessel
 use Rattle.ship.specs.Vessel.{noHouse, housesOf}
 
 -- version, type, houses n, spare; L, D, M, Cb, Cwf; six ordinates of sheer; displacement, immersion
@@ -64,6 +65,10 @@ housesBytes (h ∷ hs) = houseBytes h ++ housesBytes hs
 abbrev pub housesIn : ℕ → List ℕ → List House
 housesIn zero t = []
 housesIn (suc n) t = houseIn (take 8 t) ∷ housesIn n (drop 8 t)
+
+-- every height stands within its bits
+pub record Low (hs : List House) : Type 0 where
+  pub each : (k : ℕ) → k < length hs → Vessel.houseAt hs k .height .0 < 8192
 
 -- ---- the head in 27 bytes
 abbrev pub headFields : Ship → List ℕ

@@ -1,12 +1,12 @@
 // Any ship as a record in a lent buffer, or one numbered refusal and the buffer as it was.
 ghost use mathlib.Core.Path.{_≡_};
-ghost use Prim.Native.Nat.{ℕ, _+_, _*_, _≤_, _<_};
+ghost use Prim.Native.Nat.{_+_, _*_, _≤_, _<_};
 ghost use mathlib.Core.List.{_++_};
-ghost use lib.ListN.{length, take, drop, getD};
+ghost use lib.ListN.{length, take, drop};
 ghost use Rattle.bits.specs.Fields.{Fit};
-ghost use Rattle.ship.specs.Vessel.{houseAt, housesOf};
+ghost use Rattle.ship.specs.Vessel.{housesOf};
 ghost use Rattle.ship.specs.Refusals.{paper};
-ghost use Rattle.record.specs.Layout.{bit, houseBytes, housesBytes, headWidths, headFields, headBytes, recordBytes};
+ghost use Rattle.record.specs.Layout.{bit, Low, houseBytes, housesBytes, headWidths, headFields, headBytes, recordBytes};
 ghost use Rattle.record.specs.Writing.{writingOf, written};
 use crate::layout;
 use ship::House;
@@ -43,7 +43,7 @@ fn put_house(out: &mut [u8], h: House)
 // Writes the first `n` houses, each in its own eight bytes from byte 27 + 8k on.
 fn put_houses(buf: &mut [u8], houses: [House; 8], n: usize)
     requires { ⌜ (n ≤ 8) × (27 + 8 * n ≤ length (now buf)) ⌝ }
-    requires { ⌜ ((k : ℕ) → k < n → houseAt houses k .height .0 < 8192) ⌝ }
+    requires { ⌜ Low (take n houses) ⌝ }
     ensures { λ _. ⌜ now (buf .exit) ≡ (take 27 (now (buf .entry)) ++ housesBytes (take n houses)) ++ drop (27 + 8 * n) (now (buf .entry)) ⌝ }
 {
     let mut k = 0;
@@ -88,7 +88,7 @@ fn put_head(out: &mut [u8], x: Ship)
 fn put_record(buf: &mut [u8], x: Ship)
     requires { ⌜ (x .n ≤ 8) × (27 + 8 * x .n ≤ length (now buf)) ⌝ }
     requires { ⌜ Fit headWidths (headFields x) ⌝ }
-    requires { ⌜ ((k : ℕ) → k < x .n → houseAt (x .houses) k .height .0 < 8192) ⌝ }
+    requires { ⌜ Low (housesOf x) ⌝ }
     ensures { λ _. ⌜ now (buf .exit) ≡ recordBytes x ++ drop (27 + 8 * x .n) (now (buf .entry)) ⌝ }
 {
     put_head(&mut buf[0..27], x);

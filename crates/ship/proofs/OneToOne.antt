@@ -1,12 +1,14 @@
 -- 01's number and place name one verdict: no two verdicts have the same paper.
-use Prim.Native.Nat.{ℕ}
+use Prim.Native.Nat.{ℕ, _<_}
+use native.Mathlib.Omega.{arith}
+use Rattle.ship.specs.declared.refusal.Refusal.{Refusal}
 use mathlib.Core.List.{List, [], _∷_}
 use mathlib.Core.Path.{_≡_, refl, sym, ap, _∙_}
 use lib.ListN.{getD}
 use Rattle.ship.specs.declared.refusal.Refusal.the-variants.{Short, Version, Kind, Count, Size, Spare, Field, Certified, Ends, Quarterdeck, Overlap, Buffer}
 use Rattle.ship.specs.declared.refusal.Verdict.{Verdict}
 use Rattle.ship.specs.declared.refusal.Verdict.the-variants.{Accepted, Refused}
-use Rattle.ship.specs.Refusals.{Paper, paper}
+use Rattle.ship.specs.Refusals.{Paper, paper, numberOf}
 
 -- the verdict that has a paper; numbers that these calls do not use stand as `Accepted`
 verdictOf : Paper → Verdict
@@ -36,3 +38,18 @@ back (Refused Buffer) = refl
 
 pub one-verdict : (v w : Verdict) → paper v ≡ paper w → v ≡ w
 one-verdict v w e = sym (back v) ∙ ap verdictOf e ∙ back w
+
+-- no refusal has the number 0, which means acceptance
+pub number-above-0 : (r : Refusal) → 0 < numberOf r
+number-above-0 Short = omega arith
+number-above-0 Version = omega arith
+number-above-0 Kind = omega arith
+number-above-0 Count = omega arith
+number-above-0 Size = omega arith
+number-above-0 Spare = omega arith
+number-above-0 (Field k) = omega arith
+number-above-0 Certified = omega arith
+number-above-0 (Ends k) = omega arith
+number-above-0 (Quarterdeck k) = omega arith
+number-above-0 (Overlap k) = omega arith
+number-above-0 Buffer = omega arith

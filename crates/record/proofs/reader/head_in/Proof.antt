@@ -1,31 +1,25 @@
+-- The first 27 bytes, taken apart at the head's widths.
+use mathlib.Core.Path.{refl, sym}
+use lib.Seq.{length-take-le}
+use denote.Ref.{now}
+use native.Mathlib.Omega.{arith}
 use borrow.Author.Needs.{needs}
+use Rattle.record.specs.Layout.{headIn}
+use Rattle.record.proofs.Parts.{head-narrow}
 use Rattle.record.proofs.reader.head_in.Statement.{statement}
 use Rattle.record.proofs.reader.head_in.Tie as tie
 use Rattle.record.proofs.reader.head_in.Reads as reads
 use Rattle.record.proofs.reader.head_in.Lts as lts
-use Rattle.bits.proofs.get.Reads as get-reads
-
--- src/reader.rt:72:15
-slice-aggregate-get : tie.Need-slice-aggregate-get
-slice-aggregate-get c = ?
-
--- src/reader.rt:72:25
-slice-aggregate-get-2 : tie.Need-slice-aggregate-get-2
-slice-aggregate-get-2 c = search needs
-
--- src/reader.rt:72:40
-slice-aggregate-get-3 : tie.Need-slice-aggregate-get-3
-slice-aggregate-get-3 c = search needs
-
--- src/reader.rt:72:5
-get-requires : tie.Need-get-requires
-get-requires c κs = ?
-
--- src/reader.rt:67:1
-returns : tie.Need-returns
-returns c = ?
 
 pub head-in-spec : {M : Type 1} → statement M
+unfolding headIn
 head-in-spec =
     tie.close
-    (tie.spec slice-aggregate-get slice-aggregate-get-2 slice-aggregate-get-3 get-requires returns)
+    (tie.spec
+    (λ c. sym (length-take-le 27 (now (c .before .before .args .s)) (omega arith)))
+    (λ c. search needs)
+    (λ c. search needs)
+    (λ c κs.
+      let e = length-take-le 27 (now (c .before .before .before .before .args .s)) (omega arith) in
+      ((omega arith, head-narrow), (refl, omega arith)))
+    (λ c. c .before .get .ensures))

@@ -1,93 +1,43 @@
+-- The word is the fields side by side.
+use mathlib.Core.Path.{_≡_, refl, ap, _∙_}
+use native.Mathlib.Omega.{arith}
 use borrow.Author.Needs.{needs}
+use Rattle.bits.specs.Fields.{pack, bytes}
+use Rattle.record.specs.Layout.{houseBytes}
 use Rattle.record.proofs.writer.put_house.Statement.{statement}
 use Rattle.record.proofs.writer.put_house.Tie as tie
 use Rattle.record.proofs.writer.put_house.Reads as reads
 use Rattle.record.proofs.writer.put_house.Lts as lts
-use Rattle.bits.proofs.put_word.Reads as put-word-reads
-use Rattle.record.proofs.layout.turned21.Reads as turned21-reads
-use Rattle.record.proofs.writer.bit_of.Reads as bit-of-reads
-
--- src/writer.rt:30:9
-bit-of-requires : tie.Need-bit-of-requires
-bit-of-requires c κs = search needs
-
--- src/writer.rt:31:9
-bit-of-requires-2 : tie.Need-bit-of-requires-2
-bit-of-requires-2 c κs = search needs
-
--- src/writer.rt:32:9
-turned21-requires : tie.Need-turned21-requires
-turned21-requires c κs = search needs
-
--- src/writer.rt:33:9
-turned21-requires-2 : tie.Need-turned21-requires-2
-turned21-requires-2 c κs = search needs
-
--- src/writer.rt:35:13
-mul-n : tie.Need-mul-n
-mul-n c = search needs
-
--- src/writer.rt:36:11
-mul-n-2 : tie.Need-mul-n-2
-mul-n-2 c = search needs
-
--- src/writer.rt:35:13
-add-n : tie.Need-add-n
-add-n c = search needs
-
--- src/writer.rt:37:11
-mul-n-3 : tie.Need-mul-n-3
-mul-n-3 c = search needs
-
--- src/writer.rt:35:13
-add-n-2 : tie.Need-add-n-2
-add-n-2 c = search needs
-
--- src/writer.rt:38:11
-mul-n-4 : tie.Need-mul-n-4
-mul-n-4 c = search needs
-
--- src/writer.rt:35:13
-add-n-3 : tie.Need-add-n-3
-add-n-3 c = search needs
-
--- src/writer.rt:39:11
-mul-n-5 : tie.Need-mul-n-5
-mul-n-5 c = search needs
-
--- src/writer.rt:35:13
-add-n-4 : tie.Need-add-n-4
-add-n-4 c = search needs
-
--- src/writer.rt:40:5
-put-word-requires : tie.Need-put-word-requires
-put-word-requires c κs = search needs
-
--- src/writer.rt:26:1
-same-length : tie.Need-same-length
-same-length c = search needs
-
--- src/writer.rt:26:1
-returns : tie.Need-returns
-returns c = ?
 
 pub put-house-spec : {M : Type 1} → statement M
+unfolding houseBytes pack
 put-house-spec =
     tie.close
     (tie.spec
-    bit-of-requires
-    bit-of-requires-2
-    turned21-requires
-    turned21-requires-2
-    mul-n
-    mul-n-2
-    add-n
-    mul-n-3
-    add-n-2
-    mul-n-4
-    add-n-3
-    mul-n-5
-    add-n-4
-    put-word-requires
-    same-length
-    returns)
+    (λ c κs. search needs)
+    (λ c κs. search needs)
+    (λ c κs. search needs)
+    (λ c κs. search needs)
+    (λ c. search needs)
+    (λ c. search needs)
+    (λ c. search needs)
+    (λ c. search needs)
+    (λ c. search needs)
+    (λ c. search needs)
+    (λ c. search needs)
+    (λ c. search needs)
+    (λ c. search needs)
+    (λ c κs. search needs)
+    (λ c. search needs)
+    (λ c.
+      let w = c .before .before in
+      let t = w .before .before in
+      let b = t .before .before in
+      w .put-word .ensures
+      ∙ rw (
+        b .before .before .before .pre .0,
+        t .turned212 .ensures .0,
+        t .before .turned21 .ensures .0,
+        b .bit-of2 .ensures .0,
+        b .before .bit-of .ensures .0,
+      ) (ap (bytes 8) (omega arith))))

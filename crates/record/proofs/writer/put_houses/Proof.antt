@@ -1,74 +1,23 @@
+-- The houses passed stand in their bytes; all other bytes are as they were.
+use Prim.Native.Nat.{ℕ, _+_, _-_, _*_, _≤_, _<_}
+use mathlib.Core.Path.{_≡_, refl, sym, _∙_}
+use mathlib.Core.List.{_++_, append-nil}
+use lib.ListN.{length, take, drop, length-take, length-drop, take-append-drop}
+use lib.Seq.{length-take-le, getD-take}
+use denote.Ref.{now}
+use native.Mathlib.Omega.{arith}
+use borrow.Author.Needs.{needs}
+use Rattle.record.specs.Layout.{housesBytes}
+use Rattle.record.proofs.Parts.{houses-more}
 use Rattle.record.proofs.writer.put_houses.Statement.{statement}
 use Rattle.record.proofs.writer.put_houses.Tie as tie
-use Rattle.record.proofs.writer.put_houses.Reads as reads
-use Rattle.record.proofs.writer.put_houses.Lts as lts
-use Rattle.record.proofs.writer.put_house.Reads as put-house-reads
 
 abbrev Inv-loop : tie.InvT-loop
-Inv-loop buf₀ n houses k₀ buf k = ?
+Inv-loop buf₀ n houses k₀ buf k =
+    (k ≤ n) × (buf ≡ (take 27 buf₀ ++ housesBytes (take k houses)) ++ drop (27 + 8 * k) buf₀) × (length buf ≡ length buf₀)
 
 abbrev μ-loop : tie.MeasureT-loop
-μ-loop buf₀ n houses k₀ buf k = ?
-
--- src/writer.rt:50:5
-loop-holds : tie.Need-loop-holds Inv-loop μ-loop
-loop-holds c = ?
-
--- src/writer.rt:51:22
-mul-a : tie.Need-mul-a Inv-loop μ-loop
-mul-a c = ?
-
--- src/writer.rt:51:17
-add-a : tie.Need-add-a Inv-loop μ-loop
-add-a c = ?
-
--- src/writer.rt:52:17
-add-e : tie.Need-add-e Inv-loop μ-loop
-add-e c = ?
-
--- src/writer.rt:53:17
-mul-h : tie.Need-mul-h Inv-loop μ-loop
-mul-h c = ?
-
--- src/writer.rt:53:17
-array-copy-out-h : tie.Need-array-copy-out-h Inv-loop μ-loop
-array-copy-out-h c = ?
-
--- src/writer.rt:54:19
-sub-put-house : tie.Need-sub-put-house Inv-loop μ-loop
-sub-put-house c = ?
-
--- src/writer.rt:54:19
-part-put-house-start : tie.Need-part-put-house-start Inv-loop μ-loop
-part-put-house-start c = ?
-
--- src/writer.rt:54:19
-part-put-house-end : tie.Need-part-put-house-end Inv-loop μ-loop
-part-put-house-end c = ?
-
--- src/writer.rt:54:9
-put-house-requires : tie.Need-put-house-requires Inv-loop μ-loop
-put-house-requires c κs = ?
-
--- src/writer.rt:55:9
-add-k : tie.Need-add-k Inv-loop μ-loop
-add-k c = ?
-
--- src/writer.rt:50:5
-loop-less : tie.Need-loop-less Inv-loop μ-loop
-loop-less c = ?
-
--- src/writer.rt:50:5
-loop-again : tie.Need-loop-again Inv-loop μ-loop
-loop-again c = ?
-
--- src/writer.rt:44:1
-same-length : tie.Need-same-length Inv-loop μ-loop
-same-length c = ?
-
--- src/writer.rt:44:1
-returns : tie.Need-returns Inv-loop μ-loop
-returns c = ?
+μ-loop buf₀ n houses k₀ buf k = n - k
 
 pub put-houses-spec : {M : Type 1} → statement M
 put-houses-spec =
@@ -76,18 +25,41 @@ put-houses-spec =
     (tie.spec
     Inv-loop
     μ-loop
-    loop-holds
-    mul-a
-    add-a
-    add-e
-    mul-h
-    array-copy-out-h
-    sub-put-house
-    part-put-house-start
-    part-put-house-end
-    put-house-requires
-    add-k
-    loop-less
-    loop-again
-    same-length
-    returns)
+    (λ c.
+      let b = now (c .before .args .buf) in
+      (search needs, rw (append-nil (take 27 b)) (sym (take-append-drop 27 b)), refl))
+    (λ c. search needs)
+    (λ c. search needs)
+    (λ c. search needs)
+    (λ c. search needs)
+    (λ c. search needs)
+    (λ c. search needs)
+    (λ c. search needs)
+    (λ c. search needs)
+    (λ c κs.
+      let l = c .before .before .before in
+      let k = l .loop .k in
+      let n : 27 + 8 * k + 8 - (27 + 8 * k) ≡ 8 = omega arith in
+      let h : k < l .before .before .args .n = omega arith in
+      let a = l .before .before .args in
+      let m : length (a .t2) ≡ 8 = search needs in
+      let t : length (take (a .n) (a .t2)) ≡ a .n = length-take-le (a .n) (a .t2) (omega arith) in
+      (
+        rw (n, length-take 8 (drop (27 + 8 * k) (l .loop .buf)), length-drop (27 + 8 * k) (l .loop .buf)) (omega arith),
+        rw (getD-take (a .n) (a .t2) k _ h) at (l .before .before .pre .1 .each k (omega arith)),
+      ))
+    (λ c. search needs)
+    (λ c. search needs)
+    (λ c.
+      let w = c .before .before in
+      let l = w .before .before .before .before in
+      let a = l .before .before .args in
+      let k = l .loop .k in
+      let n : 27 + 8 * k + 8 - (27 + 8 * k) ≡ 8 = omega arith in
+      let m : length (a .t2) ≡ 8 = search needs in
+      (omega arith, rw (n, w .put-house .ensures, l .loop .inv .1) (houses-more (now (a .buf)) (a .t2) k (omega arith) (omega arith)), search needs))
+    (λ c. search needs)
+    (λ c.
+      let l = c .before in
+      let k : l .loop .k ≡ l .before .before .args .n = omega arith in
+      l .loop .inv .1 ∙ rw k refl))

@@ -1,0 +1,3 @@
+pub mod Parts
+pub mod Framed
+pub mod Written

@@ -13,7 +13,7 @@ use Rattle.ship.specs.declared.refusal.Refusal.{Refusal}
 use Rattle.ship.specs.Vessel.{noShip}
 use Rattle.ship.specs.Refusals.{Paper, accepted, refused, numberOf, placeOf, first}
 use Rattle.ship.specs.Checks.{shipLines}
-use Rattle.ship.proofs.Lines.{all-pass, first-append, first-passed, or-false}
+use Rattle.ship.proofs.Lines.{AllPass, all-pass, first-append, first-passed, or-false}
 use Rattle.ship.proofs.OneToOne.{number-above-0}
 use Rattle.record.specs.Layout.{version, kind, count, spare, shipIn}
 use Rattle.record.specs.Reading.{frameLines, firstSpare, Reading, readingOf, readingIn}
@@ -27,9 +27,8 @@ pub record Framed (s : List ℕ) : Type 0 where
   pub blank : spare s ≡ 0
   pub blanks : count s ≤ firstSpare s
 
-pub framed : (s : List ℕ) → first (frameLines s) .number ≡ 0 → Framed s
-framed s e =
-    let p = all-pass (frameLines s) (omega arith) e in
+pub frame-passed : (s : List ℕ) → AllPass (frameLines s) → Framed s
+frame-passed s p =
     let six = or-false (not (eqb (spare s) 0)) (ltb (firstSpare s) (count s)) (p .1 .1 .1 .1 .1 .0) in
     record {
       long = ltb-false (length s) 27 (p .0);
@@ -41,15 +40,28 @@ framed s e =
       blanks = ltb-false (firstSpare s) (count s) (six .1);
     }
 
+pub framed : (s : List ℕ) → first (frameLines s) .number ≡ 0 → Framed s
+framed s e = frame-passed s (all-pass (frameLines s) (omega arith) e)
+
 -- and back
 pub frame-passes : (s : List ℕ) → Framed s → first (frameLines s) ≡ accepted
 frame-passes s f =
     let a = f .first in
     let b = f .exact in
     let c = f .blank in
-    first-passed (frameLines s)
-    (le-ltb (length s) 27 (f .long), (ap not (eq-eqb (version s) 1 a), (le-ltb 1 (kind s) (f .type), (le-ltb 8 (count s) (f .few),
-    (ap not (eq-eqb (length s) (27 + 8 * count s) b), (rw (eq-eqb (spare s) 0 c) (le-ltb (firstSpare s) (count s) (f .blanks)), tt))))))
+    first-passed (frameLines s) (
+      le-ltb (length s) 27 (f .long),
+      (
+        ap not (eq-eqb (version s) 1 a),
+        (
+          le-ltb 1 (kind s) (f .type),
+          (
+            le-ltb 8 (count s) (f .few),
+            (ap not (eq-eqb (length s) (27 + 8 * count s) b), (rw (eq-eqb (spare s) 0 c) (le-ltb (firstSpare s) (count s) (f .blanks)), tt)),
+          ),
+        ),
+      ),
+    )
 
 -- bytes with a right frame read as the ship's own checks say
 pub reading-framed : (s : List ℕ) → first (frameLines s) ≡ accepted → readingIn s ≡ readingOf (first (shipLines (shipIn s))) (shipIn s)

@@ -45,3 +45,11 @@ none-before fails k (suc m) j h g = go (fails k) refl (none-before fails (k + 1)
     go : (b : Bool) → fails k ≡ b → (k + 1 ≤ j → j < firstFrom fails (k + 1) m → fails j ≡ false) → j < pick b k (firstFrom fails (k + 1) m) → fails j ≡ false
     go true e r g = absurd (omega arith)
     go false e r g = elim (decLt k j) [ yes q ↦ r (omega arith) g | no q ↦ (let s : j ≡ k = omega arith in rw s e) ]
+
+-- where nothing fails, nothing is found
+pub first-none : (fails : ℕ → Bool) (k m : ℕ) → ((j : ℕ) → k ≤ j → j < k + m → fails j ≡ false) → firstFrom fails k m ≡ k + m
+unfolding firstFrom pick
+first-none fails k zero h = omega arith
+first-none fails k (suc m) h =
+    let r : firstFrom fails (k + 1) m ≡ k + 1 + m = first-none fails (k + 1) m (λ j p q. h j (omega arith) (omega arith)) in
+    rw (h k (omega arith) (omega arith)) (omega arith)

@@ -33,6 +33,10 @@ unfolding first pick
 first-passed [] a = refl
 first-passed (t ∷ ts) a = rw (a .0) (first-passed ts (a .1))
 
+pub all-pass-split : (ts us : List Line) → AllPass (ts ++ us) → AllPass ts × AllPass us
+all-pass-split [] us a = (tt, a)
+all-pass-split (t ∷ ts) us a = let r = all-pass-split ts us (a .1) in ((a .0, r .0), r .1)
+
 -- two lists, one after the other: the second speaks where the first accepts
 pub first-append : (ts us : List Line) → Numbered ts → first (ts ++ us) ≡ pick (eqb (first ts .number) 0) (first us) (first ts)
 unfolding first pick

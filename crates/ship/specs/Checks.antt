@@ -84,9 +84,10 @@ houseLine number r l hs = (ltb (firstBreach r l hs) (length hs), refused number 
 abbrev pub houseLines : ℕ → List House → List Line
 houseLines l hs = houseLine 9 EndsAndHeight l hs ∷ houseLine 10 RaisedQuarterdeck l hs ∷ houseLine 11 NoOverlap l hs ∷ []
 
+-- 7 and 8, on a ship's fields
+abbrev pub fieldLines : Ship → List Line
+fieldLines x = (ltb (fieldOut (fieldsOf x)) 13, refused 7 (fieldOut (fieldsOf x) + 1)) ∷ (halfCertified x, refused 8 0) ∷ []
+
 -- 7 to 11, on a ship
 abbrev pub shipLines : Ship → List Line
-shipLines x =
-    (ltb (fieldOut (fieldsOf x)) 13, refused 7 (fieldOut (fieldsOf x) + 1))
-    ∷ (halfCertified x, refused 8 0)
-    ∷ houseLines (x .length .0) (housesOf x)
+shipLines x = fieldLines x ++ houseLines (x .length .0) (housesOf x)

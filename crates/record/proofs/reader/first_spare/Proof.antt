@@ -48,16 +48,16 @@ first-spare-spec =
     (λ c. search needs)
     (λ c κs. search needs)
     (λ c.
-      let l = c .before .before .before .before in
-      let a = l .before .before .args in
-      sym (l .loop .inv .1 ∙ first-fail (houseSpare (now (a .s))) (a .n) (l .loop .k) (omega arith) (told (c .before) ∙ ap not (ne-eqb _ 0 (c .if1 .taken)))))
+    let l = c .before .before .before .before in
+    let a = l .before .before .args in
+    sym (l .loop .inv .1 ∙ first-fail (houseSpare (now (a .s))) (a .n) (l .loop .k) (omega arith) (told (c .before) ∙ ap not (ne-eqb _ 0 (c .if1 .taken)))))
     (λ c. search needs)
     (λ c. search needs)
     (λ c.
-      let l = c .before .before .before .before in
-      let a = l .before .before .args in
-      (omega arith, l .loop .inv .1 ∙ first-pass (houseSpare (now (a .s))) (a .n) (l .loop .k) (omega arith) (told (c .before) ∙ ap not (eq-eqb _ 0 (c .if1 .left)))))
+    let l = c .before .before .before .before in
+    let a = l .before .before .args in
+    (omega arith, l .loop .inv .1 ∙ first-pass (houseSpare (now (a .s))) (a .n) (l .loop .k) (omega arith) (told (c .before) ∙ ap not (eq-eqb _ 0 (c .if1 .left)))))
     (λ c.
-      let l = c .before in
-      let a = l .before .before .args in
-      sym (l .loop .inv .1 ∙ first-end (houseSpare (now (a .s))) (a .n) (l .loop .k) (omega arith))))
+    let l = c .before in
+    let a = l .before .before .args in
+    sym (l .loop .inv .1 ∙ first-end (houseSpare (now (a .s))) (a .n) (l .loop .k) (omega arith))))

@@ -41,51 +41,51 @@ frame-spec =
     tie.close
     (tie.spec
     (λ c.
-      let a : length (now (c .before .before .args .s)) < 27 = omega arith in
-      simp lt-ltb)
+    let a : length (now (c .before .before .args .s)) < 27 = omega arith in
+    simp lt-ltb)
     (λ c κs. search needs)
     (λ c. search needs)
     (λ c.
-      let h = c .before in
-      let s = now (h .before .before .before .args .s) in
-      let a : 27 ≤ length s = omega arith in
-      let b : version s ≢ 1 = rw (← h .head-in .ensures) (omega arith) in
-      simp (le-ltb, ne-eqb))
+    let h = c .before in
+    let s = now (h .before .before .before .args .s) in
+    let a : 27 ≤ length s = omega arith in
+    let b : version s ≢ 1 = rw (← h .head-in .ensures) (omega arith) in
+    simp (le-ltb, ne-eqb))
     (λ c. search needs)
     (λ c.
-      let h = c .before .before in
-      let s = now (h .before .before .before .args .s) in
-      let a : 27 ≤ length s = omega arith in
-      let b : version s ≡ 1 = rw (← h .head-in .ensures) (omega arith) in
-      let d : 1 < kind s = rw (← h .head-in .ensures) (omega arith) in
-      simp (le-ltb, lt-ltb, eq-eqb))
+    let h = c .before .before in
+    let s = now (h .before .before .before .args .s) in
+    let a : 27 ≤ length s = omega arith in
+    let b : version s ≡ 1 = rw (← h .head-in .ensures) (omega arith) in
+    let d : 1 < kind s = rw (← h .head-in .ensures) (omega arith) in
+    simp (le-ltb, lt-ltb, eq-eqb))
     (λ c. search needs)
     (λ c.
-      let h = c .before .before .before in
-      let s = now (h .before .before .before .args .s) in
-      let a : 27 ≤ length s = omega arith in
-      let b : version s ≡ 1 = rw (← h .head-in .ensures) (omega arith) in
-      let d : kind s ≤ 1 = rw (← h .head-in .ensures) (omega arith) in
-      let e : 8 < count s = rw (← h .head-in .ensures) (omega arith) in
-      simp (le-ltb, lt-ltb, eq-eqb))
+    let h = c .before .before .before in
+    let s = now (h .before .before .before .args .s) in
+    let a : 27 ≤ length s = omega arith in
+    let b : version s ≡ 1 = rw (← h .head-in .ensures) (omega arith) in
+    let d : kind s ≤ 1 = rw (← h .head-in .ensures) (omega arith) in
+    let e : 8 < count s = rw (← h .head-in .ensures) (omega arith) in
+    simp (le-ltb, lt-ltb, eq-eqb))
     (λ c. search needs)
     (λ c. search needs)
     (λ c.
-      let h = c .before .before .before .before in
-      let s = now (h .before .before .before .args .s) in
-      let a : 27 ≤ length s = omega arith in
-      let b : version s ≡ 1 = rw (← h .head-in .ensures) (omega arith) in
-      let d : kind s ≤ 1 = rw (← h .head-in .ensures) (omega arith) in
-      let e : count s ≤ 8 = rw (← h .head-in .ensures) (omega arith) in
-      let f : length s ≢ 27 + 8 * count s = rw (← h .head-in .ensures) (omega arith) in
-      simp (le-ltb, eq-eqb, ne-eqb))
+    let h = c .before .before .before .before in
+    let s = now (h .before .before .before .args .s) in
+    let a : 27 ≤ length s = omega arith in
+    let b : version s ≡ 1 = rw (← h .head-in .ensures) (omega arith) in
+    let d : kind s ≤ 1 = rw (← h .head-in .ensures) (omega arith) in
+    let e : count s ≤ 8 = rw (← h .head-in .ensures) (omega arith) in
+    let f : length s ≢ 27 + 8 * count s = rw (← h .head-in .ensures) (omega arith) in
+    simp (le-ltb, eq-eqb, ne-eqb))
     (λ c κs.
-      let f = five c in
-      (ap (λ (l : List ℕ). getD l 2 0) (c .before .before .before .before .head-in .ensures), omega arith, omega arith))
+    let f = five c in
+    (ap (λ (l : List ℕ). getD l 2 0) (c .before .before .before .before .head-in .ensures), omega arith, omega arith))
     (λ c. search needs)
     (λ c.
-      let f = five (c .before .before) in
-      simp (le-ltb _ _ (f .0), eq-eqb _ _ (f .1), le-ltb _ _ (f .2), le-ltb _ _ (f .3), eq-eqb _ _ (f .4), sixth (c .before), c .if6 .taken))
+    let f = five (c .before .before) in
+    simp (le-ltb _ _ (f .0), eq-eqb _ _ (f .1), le-ltb _ _ (f .2), le-ltb _ _ (f .3), eq-eqb _ _ (f .4), sixth (c .before), c .if6 .taken))
     (λ c.
-      let f = five (c .before .before) in
-      simp (le-ltb _ _ (f .0), eq-eqb _ _ (f .1), le-ltb _ _ (f .2), le-ltb _ _ (f .3), eq-eqb _ _ (f .4), sixth (c .before), c .if6 .left)))
+    let f = five (c .before .before) in
+    simp (le-ltb _ _ (f .0), eq-eqb _ _ (f .1), le-ltb _ _ (f .2), le-ltb _ _ (f .3), eq-eqb _ _ (f .4), sixth (c .before), c .if6 .left)))

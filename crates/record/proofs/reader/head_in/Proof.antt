@@ -20,6 +20,6 @@ head-in-spec =
     (λ c. search needs)
     (λ c. search needs)
     (λ c κs.
-      let e = length-take-le 27 (now (c .before .before .before .before .args .s)) (omega arith) in
-      ((omega arith, head-narrow), (refl, omega arith)))
+    let e = length-take-le 27 (now (c .before .before .before .before .args .s)) (omega arith) in
+    ((omega arith, head-narrow), (refl, omega arith)))
     (λ c. c .before .get .ensures))

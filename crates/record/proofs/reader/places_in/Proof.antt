@@ -39,12 +39,12 @@ places-in-spec =
     (λ c. search needs)
     (λ c. search needs)
     (λ c.
-      let l = c .before .before .before in
-      let k = l .loop .k in
-      let s = now (l .before .before .before .args .s) in
-      let n : 27 + 8 * k + 8 - (27 + 8 * k) ≡ 8 = omega arith in
-      (omega arith, rw (c .house-in .ensures, n, l .loop .inv .1) (places-more s k (omega arith))))
+    let l = c .before .before .before in
+    let k = l .loop .k in
+    let s = now (l .before .before .before .args .s) in
+    let n : 27 + 8 * k + 8 - (27 + 8 * k) ≡ 8 = omega arith in
+    (omega arith, rw (c .house-in .ensures, n, l .loop .inv .1) (places-more s k (omega arith))))
     (λ c.
-      let l = c .before in
-      let k : l .loop .k ≡ l .before .before .before .args .n = omega arith in
-      l .loop .inv .1 ∙ rw k refl))
+    let l = c .before in
+    let k : l .loop .k ≡ l .before .before .before .args .n = omega arith in
+    l .loop .inv .1 ∙ rw k refl))

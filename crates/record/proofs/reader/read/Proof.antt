@@ -39,28 +39,28 @@ read-spec =
     (λ c κs. search needs)
     (λ c. search needs)
     (λ c κs.
-      let f = framed (now (c .before .before .before .before .args .s)) (ap (λ (p : Paper). p .number) (right c)) in
-      (f .few, omega arith))
+    let f = framed (now (c .before .before .before .before .args .s)) (ap (λ (p : Paper). p .number) (right c)) in
+    (f .few, omega arith))
     (λ c κs.
-      let s = now (c .before .before .before .before .before .args .s) in
-      let e : c .ship-in .result .n ≡ count s = ap (λ (x : Ship). x .n) (c .ship-in .ensures) in
-      rw e (framed s (ap (λ (p : Paper). p .number) (right (c .before))) .few))
+    let s = now (c .before .before .before .before .before .args .s) in
+    let e : c .ship-in .result .n ≡ count s = ap (λ (x : Ship). x .n) (c .ship-in .ensures) in
+    rw e (framed s (ap (λ (p : Paper). p .number) (right (c .before))) .few))
     (λ c. search needs)
     (λ c. search needs)
     (λ c κs. search needs)
     (λ c. search needs)
     (λ c κs. search needs)
     (λ c.
-      let o = c .before .before in
-      let s = now (o .before .before .before .before .before .before .args .s) in
-      ap (λ (x : Ship). record { verdict = accepted; ship = x }) (o .before .ship-in .ensures)
-      ∙ sym (judged o ∙ ap (λ (v : Verdict). readingOf (paper v) (shipIn s)) (c .enum-told2 .given .1)))
+    let o = c .before .before in
+    let s = now (o .before .before .before .before .before .before .args .s) in
+    ap (λ (x : Ship). record { verdict = accepted; ship = x }) (o .before .ship-in .ensures)
+    ∙ sym (judged o ∙ ap (λ (v : Verdict). readingOf (paper v) (shipIn s)) (c .enum-told2 .given .1)))
     (λ c.
-      let w = c .before .before in
-      let o = w .before .before in
-      let s = now (o .before .before .before .before .before .before .args .s) in
-      c .refuse .ensures ∙ sym (judged o ∙ ap (λ (v : Verdict). readingOf (paper v) (shipIn s)) (w .w .given .1) ∙ reading-refused (w .w .given .0 .0) (shipIn s)))
+    let w = c .before .before in
+    let o = w .before .before in
+    let s = now (o .before .before .before .before .before .before .args .s) in
+    c .refuse .ensures ∙ sym (judged o ∙ ap (λ (v : Verdict). readingOf (paper v) (shipIn s)) (w .w .given .1) ∙ reading-refused (w .w .given .0 .0) (shipIn s)))
     (λ c.
-      let v = c .before .before in
-      let f = v .before .before in
-      c .refuse2 .ensures ∙ sym (reading-unframed (now (f .before .before .args .s)) (v .v .given .0 .0) (sym (f .frame .ensures) ∙ ap paper (v .v .given .1)))))
+    let v = c .before .before in
+    let f = v .before .before in
+    c .refuse2 .ensures ∙ sym (reading-unframed (now (f .before .before .args .s)) (v .v .given .0 .0) (sym (f .frame .ensures) ∙ ap paper (v .v .given .1)))))

@@ -38,14 +38,14 @@ ship-in-spec =
     (λ c. search needs)
     (λ c. search needs)
     (λ c.
-      let f = c .before .before .before in
-      let r = f .before .before .before in
-      rw (
-        c .turned146 .ensures .0,
-        c .before .turned145 .ensures .0,
-        c .before .before .turned144 .ensures .0,
-        f .turned143 .ensures .0,
-        f .before .turned142 .ensures .0,
-        f .before .before .turned14 .ensures .0,
-        r .places-in .ensures,
-      ) (ap (λ (f : List ℕ). shipOf f (placesIn (getD f 2 0) (now (r .before .before .before .args .s)))) (r .before .head-in .ensures))))
+    let f = c .before .before .before in
+    let r = f .before .before .before in
+    rw (
+      c .turned146 .ensures .0,
+      c .before .turned145 .ensures .0,
+      c .before .before .turned144 .ensures .0,
+      f .turned143 .ensures .0,
+      f .before .turned142 .ensures .0,
+      f .before .before .turned14 .ensures .0,
+      r .places-in .ensures,
+    ) (ap (λ (f : List ℕ). shipOf f (placesIn (getD f 2 0) (now (r .before .before .before .args .s)))) (r .before .head-in .ensures))))

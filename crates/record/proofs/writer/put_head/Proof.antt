@@ -28,20 +28,20 @@ put-head-spec =
     (λ c. search needs)
     (λ c. search needs)
     (λ c κs.
-      let s = c .before .before .before .before .before .before .before .before .before .before .before in
-      ((omega (arith, s .pre), head-narrow), omega (arith, s .pre)))
+    let s = c .before .before .before .before .before .before .before .before .before .before .before in
+    ((omega (arith, s .pre), head-narrow), omega (arith, s .pre)))
     (λ c. search needs)
     (λ c.
-      let p = c .before .before in
-      let f = p .before .before .before .before in
-      let g = f .before .before .before in
-      rw (
-        p .put .ensures,
-        f .turned146 .ensures .0,
-        f .before .turned145 .ensures .0,
-        f .before .before .turned144 .ensures .0,
-        g .turned143 .ensures .0,
-        g .before .turned142 .ensures .0,
-        g .before .before .turned14 .ensures .0,
-        g .before .before .before .before .before .pre .0,
-      ) refl))
+    let p = c .before .before in
+    let f = p .before .before .before .before in
+    let g = f .before .before .before in
+    rw (
+      p .put .ensures,
+      f .turned146 .ensures .0,
+      f .before .turned145 .ensures .0,
+      f .before .before .turned144 .ensures .0,
+      g .turned143 .ensures .0,
+      g .before .turned142 .ensures .0,
+      g .before .before .turned14 .ensures .0,
+      g .before .before .before .before .before .pre .0,
+    ) refl))

@@ -30,14 +30,14 @@ put-house-spec =
     (λ c κs. search needs)
     (λ c. search needs)
     (λ c.
-      let w = c .before .before in
-      let t = w .before .before in
-      let b = t .before .before in
-      w .put-word .ensures
-      ∙ rw (
-        b .before .before .before .pre .0,
-        t .turned212 .ensures .0,
-        t .before .turned21 .ensures .0,
-        b .bit-of2 .ensures .0,
-        b .before .bit-of .ensures .0,
-      ) (ap (bytes 8) (omega arith))))
+    let w = c .before .before in
+    let t = w .before .before in
+    let b = t .before .before in
+    w .put-word .ensures
+    ∙ rw (
+      b .before .before .before .pre .0,
+      t .turned212 .ensures .0,
+      t .before .turned21 .ensures .0,
+      b .bit-of2 .ensures .0,
+      b .before .bit-of .ensures .0,
+    ) (ap (bytes 8) (omega arith))))

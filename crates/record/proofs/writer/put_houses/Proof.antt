@@ -26,8 +26,8 @@ put-houses-spec =
     Inv-loop
     μ-loop
     (λ c.
-      let b = now (c .before .args .buf) in
-      (search needs, rw (append-nil (take 27 b)) (sym (take-append-drop 27 b)), refl))
+    let b = now (c .before .args .buf) in
+    (search needs, rw (append-nil (take 27 b)) (sym (take-append-drop 27 b)), refl))
     (λ c. search needs)
     (λ c. search needs)
     (λ c. search needs)
@@ -37,29 +37,28 @@ put-houses-spec =
     (λ c. search needs)
     (λ c. search needs)
     (λ c κs.
-      let l = c .before .before .before in
-      let k = l .loop .k in
-      let n : 27 + 8 * k + 8 - (27 + 8 * k) ≡ 8 = omega arith in
-      let h : k < l .before .before .args .n = omega arith in
-      let a = l .before .before .args in
-      let m : length (a .t2) ≡ 8 = search needs in
-      let t : length (take (a .n) (a .t2)) ≡ a .n = length-take-le (a .n) (a .t2) (omega arith) in
-      (
-        rw (n, length-take 8 (drop (27 + 8 * k) (l .loop .buf)), length-drop (27 + 8 * k) (l .loop .buf)) (omega arith),
-        rw (getD-take (a .n) (a .t2) k _ h) at (l .before .before .pre .1 .each k (omega arith)),
-      ))
+    let l = c .before .before .before in
+    let k = l .loop .k in
+    let n : 27 + 8 * k + 8 - (27 + 8 * k) ≡ 8 = omega arith in
+    let h : k < l .before .before .args .n = omega arith in
+    let a = l .before .before .args in
+    let m : length (a .t2) ≡ 8 = search needs in
+    let t : length (take (a .n) (a .t2)) ≡ a .n = length-take-le (a .n) (a .t2) (omega arith) in (
+      rw (n, length-take 8 (drop (27 + 8 * k) (l .loop .buf)), length-drop (27 + 8 * k) (l .loop .buf)) (omega arith),
+      rw (getD-take (a .n) (a .t2) k _ h) at (l .before .before .pre .1 .each k (omega arith)),
+    ))
     (λ c. search needs)
     (λ c. search needs)
     (λ c.
-      let w = c .before .before in
-      let l = w .before .before .before .before in
-      let a = l .before .before .args in
-      let k = l .loop .k in
-      let n : 27 + 8 * k + 8 - (27 + 8 * k) ≡ 8 = omega arith in
-      let m : length (a .t2) ≡ 8 = search needs in
-      (omega arith, rw (n, w .put-house .ensures, l .loop .inv .1) (houses-more (now (a .buf)) (a .t2) k (omega arith) (omega arith)), search needs))
+    let w = c .before .before in
+    let l = w .before .before .before .before in
+    let a = l .before .before .args in
+    let k = l .loop .k in
+    let n : 27 + 8 * k + 8 - (27 + 8 * k) ≡ 8 = omega arith in
+    let m : length (a .t2) ≡ 8 = search needs in
+    (omega arith, rw (n, w .put-house .ensures, l .loop .inv .1) (houses-more (now (a .buf)) (a .t2) k (omega arith) (omega arith)), search needs))
     (λ c. search needs)
     (λ c.
-      let l = c .before in
-      let k : l .loop .k ≡ l .before .before .args .n = omega arith in
-      l .loop .inv .1 ∙ rw k refl))
+    let l = c .before in
+    let k : l .loop .k ≡ l .before .before .args .n = omega arith in
+    l .loop .inv .1 ∙ rw k refl))

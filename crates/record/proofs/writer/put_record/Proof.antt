@@ -18,16 +18,16 @@ put-record-spec =
     (λ c. search needs)
     (λ c. search needs)
     (λ c κs.
-      let s = c .before .before in
-      (length-take-le 27 (now (s .args .buf)) (omega arith), s .pre .1 .0))
+    let s = c .before .before in
+    (length-take-le 27 (now (s .args .buf)) (omega arith), s .pre .1 .0))
     (λ c κs.
-      let s = c .before .before .before .before .before .before .before in
-      ((s .pre .0 .0, omega arith), s .pre .1 .1))
+    let s = c .before .before .before .before .before .before .before in
+    ((s .pre .0 .0, omega arith), s .pre .1 .1))
     (λ c. search needs)
     (λ c.
-      let w = c .before .before in
-      let s = w .before .before .before .before .before .before .before .before in
-      let x = s .args .x in
-      w .put-houses .ensures
-      ∙ rw (w .before .before .before .before .before .put-head .ensures)
-      (behind-head (headBytes x) (now (s .args .buf)) (x .n) (x .houses) (length-headBytes x))))
+    let w = c .before .before in
+    let s = w .before .before .before .before .before .before .before .before in
+    let x = s .args .x in
+    w .put-houses .ensures
+    ∙ rw (w .before .before .before .before .before .put-head .ensures)
+    (behind-head (headBytes x) (now (s .args .buf)) (x .n) (x .houses) (length-headBytes x))))

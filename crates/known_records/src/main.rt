@@ -1,0 +1,74 @@
+// Reads each record that an argument names, prints its ship or its refusal, and writes an accepted ship back.
+// What must come is in `stdout`, made by `samples records` of twin/, which shares no code with the crates.
+use libc::STDOUT_FILENO;
+use record::reader;
+use record::writer;
+use ship::Ship;
+use ship::refusal::Verdict;
+
+// Whether `out` begins with `s`, and is untouched behind it.
+fn is_copy(out: &[u8; 128], s: &[u8]) -> bool {
+    let mut k = 0;
+    while k < 128 {
+        if k < s.len() {
+            if out[k] != s[k] {
+                return false;
+            }
+        } else {
+            if out[k] != 0xA5 {
+                return false;
+            }
+        }
+        k += 1;
+    }
+    true
+}
+
+fn back(x: Ship, s: &[u8]) {
+    let mut out = [0xA5u8; 128];
+    let v = writer::write(&mut out, x);
+    match v {
+        Verdict::Accepted => {
+            if is_copy(&out, s) {
+                show::text(b" back");
+            } else {
+                show::text(b" otherwise");
+            }
+        }
+        Verdict::Refused(r) => {
+            show::text(b" ");
+            show::refused(r);
+        }
+    }
+}
+
+fn one(i: usize) {
+    let mut path = io::buffer();
+    let length = os::arg(i, &mut path);
+    io::write_all(STDOUT_FILENO, &path[..length]);
+    show::text(b": ");
+    let fd = os::open_read(&path[..length]);
+    let mut buf = [0u8; 128];
+    let n = io::read_full(fd, &mut buf);
+    libc::close(fd);
+    let a = reader::read(&buf[..n]);
+    let v = a.verdict;
+    match v {
+        Verdict::Accepted => {
+            let x = a.ship;
+            show::vessel(x);
+            back(x, &buf[..n]);
+        }
+        Verdict::Refused(r) => show::refused(r),
+    }
+    show::text(b"\n");
+}
+
+fn main() {
+    let n = os::arg_count();
+    let mut i = 1;
+    while i < n {
+        one(i);
+        i += 1;
+    }
+}

@@ -1,0 +1,103 @@
+// Prints numbers, ships and refusals in document 01's own terms. What is printed is run and compared, not proved.
+ghost use Prim.Native.Nat.{_≤_};
+use libc::STDOUT_FILENO;
+use ship::House;
+use ship::Ship;
+use ship::refusal;
+use ship::refusal::Refusal;
+
+pub fn text(t: &[u8]) {
+    io::write_all(STDOUT_FILENO, t);
+}
+
+pub fn number(n: u64) {
+    io::print_decimal(STDOUT_FILENO, n);
+}
+
+// A space, and a number.
+pub fn next(n: u64) {
+    text(b" ");
+    number(n);
+}
+
+// A space, and `n` counted from `zero`, with its sign.
+pub fn next_from(zero: u64, n: u64) {
+    if zero <= n {
+        next(n - zero);
+    } else {
+        text(b" -");
+        number(zero - n);
+    }
+}
+
+fn next_flag(b: bool) {
+    if b {
+        text(b" 1");
+    } else {
+        text(b" 0");
+    }
+}
+
+pub fn refused(r: Refusal) {
+    text(b"refused");
+    next(refusal::number(r));
+    next(refusal::place(r));
+}
+
+fn house(h: House) {
+    text(b" [");
+    if h.enclosed {
+        text(b"1");
+    } else {
+        text(b"0");
+    }
+    next_flag(h.quarterdeck);
+    next_from(1048576, h.aft.0);
+    next_from(1048576, h.fore.0);
+    next(h.height.0);
+    text(b"]");
+}
+
+fn houses(hs: [House; 8], n: usize) {
+    let mut k = 0;
+    while k < 8 {
+        if k < n {
+            let h = hs[k];
+            house(h);
+        }
+        k += 1;
+    }
+}
+
+fn sheer(s: [u64; 6]) {
+    text(b" sheer");
+    let mut k = 0;
+    while k < 6 {
+        next_from(8192, s[k]);
+        k += 1;
+    }
+}
+
+pub fn vessel(x: Ship) {
+    text(b"type");
+    next(x.kind);
+    text(b" L");
+    next(x.length.0);
+    text(b" D");
+    next(x.depth.0);
+    text(b" M");
+    next(x.moulded.0);
+    text(b" Cb");
+    next(x.block);
+    text(b" Cwf");
+    next(x.waterplane);
+    let s = x.sheer;
+    sheer(s);
+    text(b" certified");
+    next(x.displacement);
+    next(x.immersion);
+    text(b" houses");
+    next(x.n as u64);
+    let hs = x.houses;
+    houses(hs, x.n);
+}

@@ -1,0 +1,5 @@
+pub mod Every
+pub mod Rule28
+pub mod Laws28
+pub mod Percentages
+pub mod Known

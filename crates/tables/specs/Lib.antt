@@ -1,0 +1,6 @@
+pub mod Table28
+pub mod Tabular
+pub mod Rule28
+pub mod Table37
+pub mod Percentages
+pub mod Known

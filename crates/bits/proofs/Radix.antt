@@ -3,10 +3,10 @@ use Prim.Native.Nat.{ℕ, zero, suc, _+_, _-_, _*_, _/_, _%_, _^_, _≤_, _<_}
 use mathlib.Core.List.{List, [], _∷_, _++_}
 use mathlib.Core.Path.{_≡_, refl, sym, ap, ap₂, subst, _∙_}
 use lib.ListN.{length, take, drop, replicate, getD, length-append, length-drop, replicate-append-replicate, length-replicate, take-append-drop}
-use lib.Pow.{pow-mono, pow-add, pow-pos, mod-pow-add, high, low}
-use lib.Arith.{digits-lt, digits-div}
+use lib.Pow.{pow-mono, pow-add, pow-pos, mod-pow-add, high}
+use lib.Arith.{digits-lt}
 use lib.Seq.{take-suc, take-nil, getD-drop, length-take-le}
-use native.Mathlib.Nat.{lt-of-lt-of-le, mod-lt, mod-one, mod-eq-of-lt, zero-add, zero-mul, add-zero, mul-one, add-assoc, mul-assoc, mul-add-div-right, mul-add-mod-self-right, add-mul, div-div-eq-div-mul}
+use native.Mathlib.Nat.{lt-of-lt-of-le, mod-lt, mod-one, mod-eq-of-lt, zero-add, add-zero, add-assoc, mul-assoc, mul-add-div-right, mul-add-mod-self-right, add-mul}
 use native.Mathlib.Omega.{arith}
 use native.Mathlib.Numerals.{add-one}
 use Rattle.bits.specs.Fields.{total, pack, piece, unpack, Fit, Narrow, number, bytes, Bytes}

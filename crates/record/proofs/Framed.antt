@@ -1,8 +1,8 @@
 -- What checks 1 to 6 show of accepted bytes, and what a reading then is.
-use Prim.Native.Nat.{ℕ, _+_, _*_, _≤_, _<_}
-use mathlib.Core.Bool.{Bool, true, false, not, _||_}
+use Prim.Native.Nat.{ℕ, _+_, _*_, _≤_}
+use mathlib.Core.Bool.{not}
 use mathlib.Core.List.{List, _++_}
-use mathlib.Core.Path.{_≡_, refl, sym, ap, _∙_}
+use mathlib.Core.Path.{_≡_, refl, ap, _∙_}
 use lib.ListN.{length}
 use lib.Dec.{eqb, ltb}
 use borrow.Author.Tests.{ltb-false, eqb-true, not-false, ne-eqb, le-ltb, eq-eqb}
@@ -16,7 +16,7 @@ use Rattle.ship.specs.Checks.{shipLines}
 use Rattle.ship.proofs.Lines.{AllPass, all-pass, first-append, first-passed, or-false}
 use Rattle.ship.proofs.OneToOne.{number-above-0}
 use Rattle.record.specs.Layout.{version, kind, count, spare, shipIn}
-use Rattle.record.specs.Reading.{frameLines, firstSpare, Reading, readingOf, readingIn}
+use Rattle.record.specs.Reading.{frameLines, firstSpare, readingOf, readingIn}
 
 pub record Framed (s : List ℕ) : Type 0 where
   pub long : 27 ≤ length s

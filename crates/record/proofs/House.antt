@@ -1,10 +1,10 @@
 -- One house, and houses one after the other: read from what was written, and written from what was read.
-use Prim.Native.Nat.{ℕ, zero, suc, _+_, _-_, _*_, _%_, _≤_, _<_}
+use Prim.Native.Nat.{ℕ, zero, suc, _+_, _*_, _≤_, _<_}
 use mathlib.Core.Bool.{Bool, true, false}
 use mathlib.Core.List.{List, [], _∷_, _++_, append-assoc}
 use mathlib.Core.Path.{_≡_, refl, sym, ap, ap₂, _∙_}
-use lib.ListN.{length, take, drop, getD, length-append, length-drop}
-use lib.Seq.{take-at, drop-at, take-add, drop-drop, length-take-le, take-append-le}
+use lib.ListN.{length, take, drop, getD, length-drop}
+use lib.Seq.{take-at, drop-at, take-add, drop-drop, length-take-le}
 use lib.Dec.{eqb}
 use native.Mathlib.Omega.{arith}
 use Rattle.bits.specs.Fields.{number, pack, unpack, bytes, Fit, Bytes}

@@ -1,13 +1,13 @@
 -- Laws of a record's parts: a part that was lent comes back, one house more is written or read, the head stands before the houses.
-use Prim.Native.Nat.{ℕ, zero, suc, _+_, _-_, _*_, _^_, _≤_, _<_}
+use Prim.Native.Nat.{ℕ, zero, suc, _+_, _-_, _*_, _≤_, _<_}
 use mathlib.Core.List.{List, [], _∷_, _++_, append-assoc, append-nil}
 use mathlib.Core.Path.{_≡_, refl, sym, ap, _∙_}
-use lib.ListN.{length, take, drop, getD, set, replicate, length-append}
+use lib.ListN.{length, take, drop, set, replicate, length-append}
 use lib.Seq.{drop-append-add, set-at, append-snoc, take-at, drop-at, drop-drop, take-suc, length-take-le}
 use native.Mathlib.Numerals.{add-one}
 use native.Mathlib.Omega.{arith}
 use Rattle.bits.specs.Fields.{number, pack, Fit, Narrow}
-use Rattle.bits.proofs.Radix.{length-bytes, fit-unpack, fit-each}
+use Rattle.bits.proofs.Radix.{length-bytes, fit-unpack}
 use Rattle.ship.specs.declared.House.{House}
 use Rattle.ship.specs.declared.Ship.{Ship}
 use Rattle.ship.specs.Vessel as Vessel

@@ -1,35 +1,33 @@
 -- Reading a written record gives the ship back, and writing an accepted record's ship gives its bytes back.
 use Prim.Native.Nat.{ℕ, zero, suc, _+_, _-_, _*_, _^_, _≤_, _<_}
-use mathlib.Core.Bool.{Bool, true, false, not}
+use mathlib.Core.Bool.{false}
 use mathlib.Core.List.{List, [], _∷_, _++_, append-nil}
-use mathlib.Core.Path.{_≡_, refl, sym, ap, ap₂, subst, _∙_}
-use lib.ListN.{length, take, drop, getD, replicate, length-append, length-drop, take-append-drop, List·getD-eq-default}
+use mathlib.Core.Path.{_≡_, refl, sym, ap, subst, _∙_}
+use lib.ListN.{length, take, drop, getD, replicate, length-append, length-drop, take-append-drop}
 use lib.Seq.{take-at, drop-at, drop-drop, drop-append-add, length-take-le, ext-getD, take-all}
-use lib.Dec.{eqb, ltb}
-use borrow.Author.Tests.{eqb-true, not-false, eq-eqb}
-use native.Mathlib.Decide.{decLt}
-use native.Mathlib.Nat.{zero-add}
+use lib.Dec.{eqb}
+use borrow.Author.Tests.{eqb-true, not-false}
 use native.Mathlib.Omega.{arith}
 use Rattle.whole.specs.Pick.{pick}
-use Rattle.bits.specs.Fields.{number, pack, unpack, bytes, Fit, Bytes}
+use Rattle.bits.specs.Fields.{number, pack, unpack, bytes, Bytes}
 use Rattle.bits.proofs.Radix.{read-written, written-read, fit-each, bytes-take, bytes-drop}
 use Rattle.ship.specs.declared.House.{House}
 use Rattle.ship.specs.declared.Ship.{Ship}
 use Rattle.ship.specs.Vessel as Vessel
 use Rattle.ship.specs.Vessel.{noHouse, housesOf, clean}
 use Rattle.ship.specs.Refusals.{Paper, accepted, first}
-use Rattle.ship.specs.Checks.{fieldLines, houseLines, shipLines, firstFrom}
-use Rattle.ship.specs.Good.{Good, GoodHouses}
+use Rattle.ship.specs.Checks.{fieldLines, houseLines, shipLines}
+use Rattle.ship.specs.Good.{Good}
 use Rattle.ship.proofs.First.{none-before, first-none}
 use Rattle.ship.proofs.Lines.{AllPass, all-pass, all-pass-split, first-passed}
 use Rattle.ship.proofs.Accepted.{good}
-use Rattle.record.specs.Layout.{headWidths, headFields, headBytes, headIn, shipOf, placesIn, shipIn, recordBytes, housesBytes, housesIn, houseAt, turn14, version, kind, count, spare, spareIn}
+use Rattle.record.specs.Layout.{headWidths, headFields, headBytes, headIn, shipOf, placesIn, shipIn, recordBytes, housesBytes, housesIn, houseAt, turn14, kind, count, spare, spareIn}
 use Rattle.record.specs.Reading.{frameLines, houseSpare, firstSpare, Reading, readingOf, readingIn}
 use Rattle.record.specs.Writing.{writingOf}
 use Rattle.record.proofs.Parts.{length-headBytes, length-housesBytes, length-housesIn, head-fit}
 use Rattle.record.proofs.Framed.{Framed, frame-passed, frame-passes, reading-framed}
 use Rattle.record.proofs.Written.{head-fits, writing-accepted}
-use Rattle.record.proofs.House.{Held, AllHeld, house-there, houses-back, houses-there, house-at, spare-back}
+use Rattle.record.proofs.House.{Held, AllHeld, houses-back, houses-there, house-at, spare-back}
 
 turn-turn : (a : ℕ) → a < 16384 → turn14 (turn14 a) ≡ a
 turn-turn a h = omega arith

@@ -14,7 +14,7 @@ use Rattle.ship.specs.declared.refusal.Verdict.{Verdict}
 use Rattle.ship.specs.Vessel.{noHouse, housesOf, clean, Same}
 use Rattle.ship.specs.Refusals.{Paper, accepted, refused, paper, first}
 use Rattle.ship.specs.Checks.{shipLines}
-use Rattle.ship.proofs.Lines.{AllPass, all-pass, all-pass-split, first-passed}
+use Rattle.ship.proofs.Lines.{all-pass, all-pass-split, first-passed}
 use Rattle.ship.proofs.OneToOne.{one-verdict}
 use Rattle.record.specs.declared.reader.Answer.{Answer}
 use Rattle.record.specs.Layout.{recordBytes}

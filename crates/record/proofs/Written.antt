@@ -1,8 +1,7 @@
 -- What the writer's verdict is once type and count are right, and what an accepted ship gives the parts that write it.
 use Prim.Native.Nat.{ℕ, _+_, _*_, _≤_, _<_}
 use mathlib.Core.List.{List, [], _∷_}
-use mathlib.Core.Path.{_≡_, refl, ap, _∙_}
-use lib.ListN.{length}
+use mathlib.Core.Path.{_≡_, refl, _∙_}
 use lib.Dec.{eqb, ltb}
 use mathlib.Core.Bool.{false}
 use borrow.Author.Tests.{le-ltb, lt-ltb, ne-eqb}

@@ -15,8 +15,8 @@ use Rattle.ship.specs.declared.checks.Rule.{Rule}
 use Rattle.ship.specs.declared.checks.Rule.the-variants.{EndsAndHeight, RaisedQuarterdeck, NoOverlap}
 use Rattle.ship.specs.Vessel.{housesOf, houseAt}
 use Rattle.ship.specs.Refusals.{Paper, first}
-use Rattle.ship.specs.Checks.{least, most, outside, fieldsOf, fieldOut, firstFrom, halfCertified, badEnds, badQuarterdeck, foreBefore, breaks, breachAt, firstBreach, houseLines, shipLines}
-use Rattle.ship.specs.Good.{Good, GoodHouse, GoodHouses}
+use Rattle.ship.specs.Checks.{least, most, outside, fieldsOf, fieldOut, badEnds, badQuarterdeck, foreBefore, breaks, breachAt, firstBreach, houseLines, shipLines}
+use Rattle.ship.specs.Good.{Good, GoodHouses}
 use Rattle.ship.proofs.First.{none-before}
 use Rattle.ship.proofs.Lines.{or-false, all-pass, first-passed}
 

@@ -1,13 +1,13 @@
 -- Laws of the table's lines: what an accepted list shows, and two lists one after the other.
 use Prim.Native.Nat.{ℕ, _<_}
-use mathlib.Core.Bool.{Bool, true, false, _||_, _&&_}
+use mathlib.Core.Bool.{Bool, true, false, _||_}
 use mathlib.Core.List.{List, [], _∷_, _++_}
-use mathlib.Core.Path.{_≡_, refl, sym, ap, _∙_}
+use mathlib.Core.Path.{_≡_, refl}
 use native.Mathlib.Omega.{arith}
 use lib.Dec.{eqb}
 use borrow.Author.Tests.{ne-eqb}
 use Rattle.whole.specs.Pick.{pick}
-use Rattle.ship.specs.Refusals.{Paper, Line, accepted, refused, first}
+use Rattle.ship.specs.Refusals.{Line, accepted, first}
 
 -- no line refuses by the number 0, which means acceptance
 abbrev pub Numbered : List Line → Type 0

@@ -4,7 +4,7 @@ use mathlib.Core.Bool.{Bool, true, false}
 use mathlib.Core.List.{List, [], _∷_}
 use Rattle.whole.specs.Pick.{pick}
 use Rattle.ship.specs.declared.refusal.Refusal.{Refusal}
-use Rattle.ship.specs.declared.refusal.Refusal.the-variants.{Short, Version, Kind, Count, Size, Spare, Field, Certified, Ends, Quarterdeck, Overlap, Buffer}
+use Rattle.ship.specs.declared.refusal.Refusal.the-variants.{Short, Version, Kind, Count, Size, Spare, Field, Certified, Ends, Quarterdeck, Overlap, Summer, Fresh, Asked, NoRoom, NoLength, Buffer}
 use Rattle.ship.specs.declared.refusal.Verdict.{Verdict}
 use Rattle.ship.specs.declared.refusal.Verdict.the-variants.{Accepted, Refused}
 
@@ -32,6 +32,11 @@ numberOf Certified = 8
 numberOf (Ends k) = 9
 numberOf (Quarterdeck k) = 10
 numberOf (Overlap k) = 11
+numberOf Summer = 12
+numberOf Fresh = 13
+numberOf Asked = 14
+numberOf NoRoom = 15
+numberOf NoLength = 16
 numberOf Buffer = 17
 
 -- and its place: 0 unless named
@@ -47,6 +52,11 @@ placeOf Certified = 0
 placeOf (Ends k) = k
 placeOf (Quarterdeck k) = k
 placeOf (Overlap k) = k
+placeOf Summer = 0
+placeOf Fresh = 0
+placeOf Asked = 0
+placeOf NoRoom = 0
+placeOf NoLength = 0
 placeOf Buffer = 0
 
 abbrev pub paper : Verdict → Paper

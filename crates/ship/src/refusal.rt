@@ -1,4 +1,4 @@
-// What a call refuses: a case for each number of document 01 that reading, writing and checking use.
+// What a call refuses: a case for each number of document 01.
 ghost use mathlib.Core.Path.{_≡_};
 ghost use Rattle.whole.specs.Pick.{pick};
 ghost use Rattle.ship.specs.Refusals.{numberOf, placeOf, paper, refused};
@@ -15,6 +15,11 @@ pub enum Refusal {
     Ends(usize),
     Quarterdeck(usize),
     Overlap(usize),
+    Summer,
+    Fresh,
+    Asked,
+    NoRoom,
+    NoLength,
     Buffer,
 }
 
@@ -39,6 +44,11 @@ pub fn number(r: Refusal) -> u64
         Refusal::Ends(_) => 9,
         Refusal::Quarterdeck(_) => 10,
         Refusal::Overlap(_) => 11,
+        Refusal::Summer => 12,
+        Refusal::Fresh => 13,
+        Refusal::Asked => 14,
+        Refusal::NoRoom => 15,
+        Refusal::NoLength => 16,
         Refusal::Buffer => 17,
     }
 }
@@ -59,6 +69,11 @@ pub fn place(r: Refusal) -> u64
         Refusal::Ends(k) => k as u64,
         Refusal::Quarterdeck(k) => k as u64,
         Refusal::Overlap(k) => k as u64,
+        Refusal::Summer => 0,
+        Refusal::Fresh => 0,
+        Refusal::Asked => 0,
+        Refusal::NoRoom => 0,
+        Refusal::NoLength => 0,
         Refusal::Buffer => 0,
     }
 }

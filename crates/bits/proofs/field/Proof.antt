@@ -1,5 +1,4 @@
 -- The window's number, shifted and cut, is the field (`field-at`).
-use mathlib.Core.Path.{refl}
 use lib.Pow.{pow-pos}
 use denote.Ref.{now}
 use Rattle.bits.proofs.Shift.{one-shl, field-at}
@@ -7,8 +6,6 @@ use native.Mathlib.Omega.{arith}
 use borrow.Author.Needs.{needs}
 use Rattle.bits.proofs.field.Statement.{statement}
 use Rattle.bits.proofs.field.Tie as tie
-use Rattle.bits.proofs.field.Reads as reads
-use Rattle.bits.proofs.field.Lts as lts
 
 pub field-spec : {M : Type 1} → statement M
 field-spec =

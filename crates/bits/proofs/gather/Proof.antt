@@ -1,9 +1,9 @@
 -- Each turn joins one field below the others; the low 40 bits are known by the low 40 bits.
 use Prim.Native.Nat.{ℕ, _+_, _-_, _*_, _%_, _^_, _≤_, _<_}
-use mathlib.Core.Path.{_≡_, sym, ap, _∙_}
+use mathlib.Core.Path.{sym, ap, _∙_}
 use lib.ListN.{length, take, getD}
 use denote.Ref.{now}
-use Rattle.bits.specs.Fields.{total, pack, Gathered}
+use Rattle.bits.specs.Fields.{pack, Gathered}
 use Rattle.bits.proofs.Radix.{pack-more, total-more, total-inside, fit-many, fit-each, narrow-each}
 use Rattle.bits.proofs.Shift.{horner, joined, joined-lt}
 use native.Mathlib.Omega.{arith}

@@ -1,6 +1,6 @@
 -- The bytes passed are the record's; the fields gathered reach at least to the next byte's end.
 use Prim.Native.Nat.{ℕ, _+_, _-_, _*_, _/_, _%_, _^_, _≤_, _<_}
-use mathlib.Core.Path.{_≡_, refl, sym, ap, _∙_}
+use mathlib.Core.Path.{_≡_, sym, ap, _∙_}
 use mathlib.Core.List.{_++_}
 use lib.ListN.{length, take, drop, getD}
 use denote.Ref.{now}
@@ -11,9 +11,6 @@ use native.Mathlib.Omega.{arith}
 use borrow.Author.Needs.{needs}
 use Rattle.bits.proofs.put.Statement.{statement}
 use Rattle.bits.proofs.put.Tie as tie
-use Rattle.bits.proofs.put.Reads as reads
-use Rattle.bits.proofs.put.Lts as lts
-use Rattle.bits.proofs.gather.Reads as gather-reads
 
 abbrev Inv-loop : tie.InvT-loop
 Inv-loop out₀ widths values acc₀ seen₀ next₀ end₀ j₀ out acc seen next end j =

@@ -1,8 +1,8 @@
 -- The bytes passed are the number's; the others are as they were.
-use Prim.Native.Nat.{ℕ, _+_, _-_, _*_, _≤_, _<_}
-use mathlib.Core.Path.{_≡_, refl, sym, ap, _∙_}
+use Prim.Native.Nat.{_+_, _-_, _*_, _≤_, _<_}
+use mathlib.Core.Path.{_≡_, _∙_}
 use mathlib.Core.List.{_++_}
-use lib.ListN.{length, take, drop, getD}
+use lib.ListN.{length, take, drop}
 use denote.Ref.{now}
 use Rattle.bits.specs.Fields.{piece, bytes}
 use Rattle.bits.proofs.Radix.{getD-bytes, length-bytes}

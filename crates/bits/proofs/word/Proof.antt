@@ -1,5 +1,5 @@
 -- The loop's number is that of the bytes passed. Fewer than eight leave room for one more.
-use Prim.Native.Nat.{ℕ, _+_, _-_, _*_, _^_, _≤_, _<_}
+use Prim.Native.Nat.{ℕ, _-_, _^_, _≤_, _<_}
 use mathlib.Core.Path.{_≡_, ap, _∙_}
 use lib.ListN.{length, take, getD}
 use lib.Seq.{take-all}

@@ -1,5 +1,5 @@
 -- What is left to search gives the same first house as the whole.
-use Prim.Native.Nat.{ℕ, _+_, _-_, _*_, _≤_, _<_}
+use Prim.Native.Nat.{_+_, _-_, _*_, _≤_}
 use mathlib.Core.Path.{_≡_, refl, sym, ap, _∙_}
 use mathlib.Core.Bool.{not}
 use lib.Dec.{eqb}
@@ -13,8 +13,6 @@ use Rattle.ship.proofs.First.{first-fail, first-pass, first-end}
 use Rattle.record.specs.Reading.{houseSpare, firstSpare}
 use Rattle.record.proofs.reader.first_spare.Statement.{statement}
 use Rattle.record.proofs.reader.first_spare.Tie as tie
-use Rattle.record.proofs.reader.first_spare.Reads as reads
-use Rattle.record.proofs.reader.first_spare.Lts as lts
 
 abbrev Inv-loop : tie.InvT-loop
 Inv-loop s n k₀ k = (k ≤ n) × (firstSpare s ≡ firstFrom (houseSpare s) k (n - k))

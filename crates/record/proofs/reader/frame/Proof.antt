@@ -1,7 +1,7 @@
 -- Each return is at the first line that fails: the tests before it are known to pass.
 use Prim.Native.Nat.{ℕ, _+_, _*_, _≤_, _<_}
-use mathlib.Core.Bool.{Bool, true, false, not, _||_}
-use mathlib.Core.Path.{_≡_, refl, sym, ap, _∙_}
+use mathlib.Core.Bool.{not, _||_}
+use mathlib.Core.Path.{_≡_, refl, ap}
 use mathlib.Core.Logic.{_≢_}
 use lib.Dec.{eqb, ltb}
 use lib.ListN.{length, getD}
@@ -12,12 +12,10 @@ use native.Mathlib.Omega.{arith}
 use borrow.Author.Needs.{needs}
 use Rattle.whole.specs.Pick.{pick}
 use Rattle.ship.specs.Refusals.{first}
-use Rattle.record.specs.Layout.{headIn, version, kind, count, spare}
+use Rattle.record.specs.Layout.{version, kind, count, spare}
 use Rattle.record.specs.Reading.{firstSpare}
 use Rattle.record.proofs.reader.frame.Statement.{statement}
 use Rattle.record.proofs.reader.frame.Tie as tie
-use Rattle.record.proofs.reader.frame.Reads as reads
-use Rattle.record.proofs.reader.frame.Lts as lts
 
 -- what lines 1 to 5 have shown where they all passed
 five : (c : tie.Else5)

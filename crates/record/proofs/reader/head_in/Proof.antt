@@ -8,8 +8,6 @@ use Rattle.record.specs.Layout.{headIn}
 use Rattle.record.proofs.Parts.{head-narrow}
 use Rattle.record.proofs.reader.head_in.Statement.{statement}
 use Rattle.record.proofs.reader.head_in.Tie as tie
-use Rattle.record.proofs.reader.head_in.Reads as reads
-use Rattle.record.proofs.reader.head_in.Lts as lts
 
 pub head-in-spec : {M : Type 1} → statement M
 unfolding headIn

@@ -5,8 +5,6 @@ use Rattle.bits.specs.Fields.{unpack, piece}
 use Rattle.record.specs.Layout.{houseIn}
 use Rattle.record.proofs.reader.house_in.Statement.{statement}
 use Rattle.record.proofs.reader.house_in.Tie as tie
-use Rattle.record.proofs.reader.house_in.Reads as reads
-use Rattle.record.proofs.reader.house_in.Lts as lts
 
 pub house-in-spec : {M : Type 1} → statement M
 unfolding houseIn unpack piece

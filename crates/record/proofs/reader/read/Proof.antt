@@ -1,6 +1,5 @@
 -- A frame that is refused, a ship that is refused, and an accepted one: what `reading-framed` and `reading-unframed` say of each.
-use Prim.Native.Nat.{ℕ}
-use mathlib.Core.Path.{_≡_, refl, sym, ap, _∙_}
+use mathlib.Core.Path.{_≡_, sym, ap, _∙_}
 use denote.Ref.{now}
 use native.Mathlib.Omega.{arith}
 use borrow.Author.Needs.{needs}
@@ -14,8 +13,6 @@ use Rattle.record.specs.Reading.{frameLines, readingOf, readingIn}
 use Rattle.record.proofs.Framed.{framed, reading-framed, reading-refused, reading-unframed}
 use Rattle.record.proofs.reader.read.Statement.{statement}
 use Rattle.record.proofs.reader.read.Tie as tie
-use Rattle.record.proofs.reader.read.Reads as reads
-use Rattle.record.proofs.reader.read.Lts as lts
 
 -- the frame was accepted
 right : (c : tie.After-enum-told) → first (frameLines (now (c .before .before .before .before .args .s))) ≡ accepted

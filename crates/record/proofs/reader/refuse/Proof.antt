@@ -10,8 +10,6 @@ use Rattle.ship.specs.Refusals.{refused, numberOf, placeOf}
 use Rattle.record.specs.Reading.{readingOf, shown}
 use Rattle.record.proofs.reader.refuse.Statement.{statement}
 use Rattle.record.proofs.reader.refuse.Tie as tie
-use Rattle.record.proofs.reader.refuse.Reads as reads
-use Rattle.record.proofs.reader.refuse.Lts as lts
 
 -- no refusal has the number 0
 go : (r : Refusal) → shown (record { verdict = Refused r; ship = noShip }) ≡ readingOf (refused (numberOf r) (placeOf r)) noShip

@@ -1,12 +1,9 @@
-use mathlib.Core.Path.{refl}
 use native.Mathlib.Omega.{arith}
 use borrow.Author.Needs.{needs}
 use Rattle.bits.specs.Fields.{unpack, piece}
 use Rattle.record.specs.Layout.{spareIn}
 use Rattle.record.proofs.reader.spare_in.Statement.{statement}
 use Rattle.record.proofs.reader.spare_in.Tie as tie
-use Rattle.record.proofs.reader.spare_in.Reads as reads
-use Rattle.record.proofs.reader.spare_in.Lts as lts
 
 pub spare-in-spec : {M : Type 1} → statement M
 unfolding spareIn unpack piece

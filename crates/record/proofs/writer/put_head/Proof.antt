@@ -5,8 +5,6 @@ use Rattle.record.specs.Layout.{headBytes}
 use Rattle.record.proofs.Parts.{head-narrow}
 use Rattle.record.proofs.writer.put_head.Statement.{statement}
 use Rattle.record.proofs.writer.put_head.Tie as tie
-use Rattle.record.proofs.writer.put_head.Reads as reads
-use Rattle.record.proofs.writer.put_head.Lts as lts
 
 pub put-head-spec : {M : Type 1} → statement M
 unfolding headBytes

@@ -1,13 +1,11 @@
 -- The word is the fields side by side.
-use mathlib.Core.Path.{_≡_, refl, ap, _∙_}
+use mathlib.Core.Path.{ap, _∙_}
 use native.Mathlib.Omega.{arith}
 use borrow.Author.Needs.{needs}
 use Rattle.bits.specs.Fields.{pack, bytes}
 use Rattle.record.specs.Layout.{houseBytes}
 use Rattle.record.proofs.writer.put_house.Statement.{statement}
 use Rattle.record.proofs.writer.put_house.Tie as tie
-use Rattle.record.proofs.writer.put_house.Reads as reads
-use Rattle.record.proofs.writer.put_house.Lts as lts
 
 pub put-house-spec : {M : Type 1} → statement M
 unfolding houseBytes pack

@@ -1,5 +1,5 @@
 -- The houses passed stand in their bytes; all other bytes are as they were.
-use Prim.Native.Nat.{ℕ, _+_, _-_, _*_, _≤_, _<_}
+use Prim.Native.Nat.{_+_, _-_, _*_, _≤_, _<_}
 use mathlib.Core.Path.{_≡_, refl, sym, _∙_}
 use mathlib.Core.List.{_++_, append-nil}
 use lib.ListN.{length, take, drop, length-take, length-drop, take-append-drop}

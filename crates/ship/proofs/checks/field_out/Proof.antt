@@ -1,14 +1,12 @@
 -- What is left to search gives the same first field as the whole.
-use Prim.Native.Nat.{ℕ, _+_, _-_, _≤_, _<_}
-use mathlib.Core.Path.{_≡_, refl, sym, _∙_}
+use Prim.Native.Nat.{_-_, _≤_}
+use mathlib.Core.Path.{_≡_, sym, _∙_}
 use native.Mathlib.Omega.{arith}
 use borrow.Author.Needs.{needs}
 use Rattle.ship.specs.Checks.{outside, fieldOut, firstFrom}
 use Rattle.ship.proofs.First.{first-fail, first-pass, first-end}
 use Rattle.ship.proofs.checks.field_out.Statement.{statement}
 use Rattle.ship.proofs.checks.field_out.Tie as tie
-use Rattle.ship.proofs.checks.field_out.Reads as reads
-use Rattle.ship.proofs.checks.field_out.Lts as lts
 
 abbrev Inv-loop : tie.InvT-loop
 Inv-loop fields k₀ k = (k ≤ 13) × (fieldOut fields ≡ firstFrom (outside fields) k (13 - k))

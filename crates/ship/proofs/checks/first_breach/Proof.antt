@@ -1,5 +1,5 @@
 -- What is left to search gives the same first house as the whole; `before` is the fore end of the house just passed.
-use Prim.Native.Nat.{ℕ, _+_, _-_, _≤_, _<_}
+use Prim.Native.Nat.{_-_, _≤_, _<_}
 use mathlib.Core.Path.{_≡_, refl, sym, _∙_}
 use lib.ListN.{length, take}
 use lib.Seq.{length-take-le, getD-take}
@@ -7,14 +7,10 @@ use native.Mathlib.Nat.{sub-zero}
 use native.Mathlib.Numerals.{add-one}
 use native.Mathlib.Omega.{arith}
 use borrow.Author.Needs.{needs}
-use Rattle.ship.specs.Vessel.{houseAt}
-use Rattle.ship.specs.Checks.{breaks, breachAt, foreBefore, firstBreach, firstFrom}
+use Rattle.ship.specs.Checks.{breachAt, foreBefore, firstBreach, firstFrom}
 use Rattle.ship.proofs.First.{first-fail, first-pass, first-end}
 use Rattle.ship.proofs.checks.first_breach.Statement.{statement}
 use Rattle.ship.proofs.checks.first_breach.Tie as tie
-use Rattle.ship.proofs.checks.first_breach.Reads as reads
-use Rattle.ship.proofs.checks.first_breach.Lts as lts
-use Rattle.ship.proofs.checks.house_breaks.Reads as house-breaks-reads
 
 abbrev Inv-loop : tie.InvT-loop
 Inv-loop rule l n houses before₀ k₀ before k =

@@ -4,8 +4,6 @@ use borrow.Author.Needs.{needs}
 use Rattle.ship.specs.Checks.{breaks}
 use Rattle.ship.proofs.checks.house_breaks.Statement.{statement}
 use Rattle.ship.proofs.checks.house_breaks.Tie as tie
-use Rattle.ship.proofs.checks.house_breaks.Reads as reads
-use Rattle.ship.proofs.checks.house_breaks.Lts as lts
 
 pub house-breaks-spec : {M : Type 1} → statement M
 unfolding breaks

@@ -1,4 +1,4 @@
-use mathlib.Core.Path.{_≡_, refl, sym, ap, _∙_}
+use mathlib.Core.Path.{_≡_, refl, ap, _∙_}
 use native.Mathlib.Omega.{arith}
 use borrow.Author.Needs.{needs}
 use borrow.Author.Tests.{lt-ltb, le-ltb}
@@ -8,8 +8,6 @@ use Rattle.ship.specs.Checks.{fieldsOf, fieldOut}
 use Rattle.ship.proofs.Accepted.{in-range}
 use Rattle.ship.proofs.checks.of_ship.Statement.{statement}
 use Rattle.ship.proofs.checks.of_ship.Tie as tie
-use Rattle.ship.proofs.checks.of_ship.Reads as reads
-use Rattle.ship.proofs.checks.of_ship.Lts as lts
 
 -- the field that the search found is the definition's
 told : (c : tie.After-field-out) → c .field-out .result ≡ fieldOut (fieldsOf (c .before .before .args .x))

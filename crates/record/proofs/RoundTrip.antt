@@ -183,22 +183,22 @@ module _ (s : List ℕ) (b : Bytes s) (f : Framed s) where
   unfolding recordBytes
   bytes-there = rw (head-there, places-there) (take-append-drop 27 s)
 
-module _ (s : List ℕ) (x : Ship) (b : Bytes s) (e : readingIn s ≡ record { verdict = accepted; ship = x }) where
-  passes-all : AllPass (frameLines s) × AllPass (shipLines (shipIn s))
+module _ (s : List ℕ) (x : Ship) (e : readingIn s ≡ record { verdict = accepted; ship = x }) where
+  pub passes-all : AllPass (frameLines s) × AllPass (shipLines (shipIn s))
   unfolding readingIn
   passes-all =
       all-pass-split (frameLines s) (shipLines (shipIn s))
       (all-pass (frameLines s ++ shipLines (shipIn s)) (omega arith) (ap (λ (r : Reading). r .verdict .number) e))
 
-  ship-is : shipIn s ≡ x
+  pub ship-is : shipIn s ≡ x
   unfolding pick
   ship-is =
       let t = reading-framed s (first-passed (frameLines s) (passes-all .0)) in
       let u = first-passed (shipLines (shipIn s)) (passes-all .1) in
       ap (λ (r : Reading). r .ship) (sym (t ∙ ap (λ (p : Paper). readingOf p (shipIn s)) u) ∙ e)
 
-  pub write-back : recordBytes x ≡ s
-  write-back = rw (← ship-is) (bytes-there s b (frame-passed s (passes-all .0)))
+  pub write-back : Bytes s → recordBytes x ≡ s
+  write-back b = rw (← ship-is) (bytes-there s b (frame-passed s (passes-all .0)))
 
   pub length-there : length s ≡ 27 + 8 * x .n
   unfolding shipIn

@@ -37,6 +37,12 @@ pub all-pass-split : (ts us : List Line) → AllPass (ts ++ us) → AllPass ts �
 all-pass-split [] us a = (tt, a)
 all-pass-split (t ∷ ts) us a = let r = all-pass-split ts us (a .1) in ((a .0, r .0), r .1)
 
+-- lines that all pass do not count
+pub first-skip : (ts us : List Line) → AllPass ts → first (ts ++ us) ≡ first us
+unfolding first pick
+first-skip [] us a = refl
+first-skip (t ∷ ts) us a = rw (a .0) (first-skip ts us (a .1))
+
 -- two lists, one after the other: the second speaks where the first accepts
 pub first-append : (ts us : List Line) → Numbered ts → first (ts ++ us) ≡ pick (eqb (first ts .number) 0) (first us) (first ts)
 unfolding first pick

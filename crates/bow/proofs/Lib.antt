@@ -1,0 +1,4 @@
+pub mod Cubic
+pub mod Words
+pub mod Bound
+pub mod Figures

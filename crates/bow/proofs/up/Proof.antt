@@ -1,0 +1,36 @@
+use Prim.Native.Nat.{_*_, _≤_, _^_}
+use native.Mathlib.Omega.{arith}
+use borrow.Author.Needs.{needs}
+use Rattle.whole.proofs.Divide.{ceil-most, mul-most, room}
+use Rattle.bow.specs.Bow.{higher, b1Up, b2Above}
+use Rattle.bow.proofs.up.Statement.{statement}
+use Rattle.bow.proofs.up.Tie as tie
+
+first : (c : tie.After-div-up2) → c .before .before .before .before .div-up .result ≤ 6920000
+first c =
+    let d = c .before .before .before .before in
+    rw (d .div-up .ensures) (ceil-most (d .before .cubic-of .result) 5000000000 6920000 (omega arith) (omega arith))
+
+second : (c : tie.After-div-up2) → c .div-up2 .result ≤ 2689000
+second c =
+    let a = c .before .before .before .before .before .before .args in
+    rw (c .div-up2 .ensures) (ceil-most (c .before .less .result) (170 * a .m .0) 2689000 (omega arith) (omega arith))
+
+pub up-spec : {M : Type 1} → statement M
+unfolding higher b1Up b2Above
+up-spec =
+    tie.close
+    (tie.spec
+    (λ c κs. search needs)
+    (λ c κs. search needs)
+    (λ c κs. search needs)
+    (λ c κs. search needs)
+    (λ c κs. search needs)
+    (λ c. search needs)
+    (λ c κs. search needs)
+    (λ c κs. (omega arith, room 6920000 2689000 1000000 (first c) (second c) (omega arith) tt))
+    (λ c. let e = c .before in
+    let r = e .before .before in (
+      rw (c .mul-div-up .ensures, e .div-up2 .ensures, e .before .less .ensures, r .fall .ensures .0, r .before .rise .ensures .0, r .before .before .div-up .ensures, r .before .before .before .cubic-of .ensures .0),
+      rw (c .mul-div-up .ensures) (ceil-most _ 1000000 (2 ^ 48) (omega arith) (omega (arith, mul-most (r .before .before .div-up .result) (e .div-up2 .result) 6920000 2689000 (first e) (second e)))),
+    )))

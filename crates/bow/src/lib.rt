@@ -1,0 +1,123 @@
+// Bow height (regulation 39): the freeboard that it asks for.
+ghost use mathlib.Core.Path.{_≡_};
+ghost use Prim.Native.Nat.{_+_, _*_, _^_, _≤_, _<_};
+ghost use Rattle.bow.specs.Bow.{cubic, rises, falls, higher, lower, sheerTaken, liftBack, forecastleTaken, bowFreeboard};
+use units::Freeboard;
+use units::Span;
+
+// b1 in 5000000000ths of a um.
+fn cubic_of(l: Span) -> u64
+    requires { ⌜ l .0 ≤ 365000 ⌝ }
+    ensures { λ r. ⌜ r ≡ cubic (l .0) ⌝ }
+    ensures { λ r. ⌜ r ≤ 34600000000000000 ⌝ }
+{
+    let mm = l.0;
+    mm * (303750000000 + mm * mm - 937500 * mm)
+}
+
+// What b2 adds, in millionths over 170 M.
+fn rise(m: Span, cb: u64) -> u64
+    requires { ⌜ m .0 ≤ 60000 ⌝ }
+    ensures { λ r. ⌜ r ≡ rises (m .0) cb ⌝ }
+    ensures { λ r. ⌜ r ≤ 457130000 * m .0 ⌝ }
+{
+    let depth = m.0;
+    17 * depth * (20800000 + 609 * whole::lesser(cb, 10000))
+}
+
+// What it takes away.
+fn fall(l: Span, m: Span, cwf: u64) -> u64
+    requires { ⌜ (l .0 ≤ 365000) × (m .0 ≤ 60000) × (cwf ≤ 10000) ⌝ }
+    ensures { λ r. ⌜ r ≡ falls (l .0) (m .0) cwf ⌝ }
+    ensures { λ r. ⌜ r ≤ 272510000 * m .0 + 941700000000 ⌝ }
+{
+    let depth = m.0;
+    let length = l.0;
+    17 * depth * (1603 * cwf) + 2580000 * length
+}
+
+// The height above zero, 0 if b2 is below.
+fn up(l: Span, m: Span, cb: u64, cwf: u64) -> Freeboard
+    requires { ⌜ (l .0 ≤ 365000) × (1000 ≤ m .0) × (m .0 ≤ 60000) × (cwf ≤ 10000) ⌝ }
+    ensures { λ r. ⌜ r .0 ≡ higher (l .0) (m .0) cb cwf ⌝ }
+    ensures { λ r. ⌜ r .0 ≤ 2 ^ 48 ⌝ }
+{
+    let depth = m.0;
+    let b1 = whole::div_up(cubic_of(l), 5000000000);
+    let b2 = whole::div_up(whole::less(rise(m, cb), fall(l, m, cwf)), 170 * depth);
+    Freeboard(whole::mul_div_up(b1, b2, 1000000))
+}
+
+// Its size below zero, 0 if b2 is above.
+fn down(l: Span, m: Span, cb: u64, cwf: u64) -> Freeboard
+    requires { ⌜ (l .0 ≤ 365000) × (1000 ≤ m .0) × (m .0 ≤ 60000) × (cwf ≤ 10000) ⌝ }
+    ensures { λ r. ⌜ r .0 ≡ lower (l .0) (m .0) cb cwf ⌝ }
+    ensures { λ r. ⌜ r .0 ≤ 2 ^ 48 ⌝ }
+{
+    let depth = m.0;
+    let b1 = cubic_of(l) / 5000000000;
+    let b2 = whole::less(fall(l, m, cwf), rise(m, cb)) / (170 * depth);
+    Freeboard(b1 * b2 / 1000000)
+}
+
+// The sheer at FP with its lift, if the ordinate at L/6 from FP is above zero.
+fn sheer_taken(sixth: u64, fp: u64) -> Freeboard
+    requires { ⌜ fp < 16384 ⌝ }
+    ensures { λ r. ⌜ r .0 ≡ sheerTaken sixth fp ⌝ }
+    ensures { λ r. ⌜ r .0 ≤ 16384000 ⌝ }
+{
+    if 8192 < sixth {
+        return units::freeboard_of_mm(fp);
+    }
+    Freeboard(0)
+}
+
+// That lift, to be given back.
+fn lift_back(sixth: u64) -> Freeboard
+    ensures { λ r. ⌜ r .0 ≡ liftBack sixth ⌝ }
+    ensures { λ r. ⌜ r .0 ≤ 8192000 ⌝ }
+{
+    if 8192 < sixth {
+        return units::freeboard_of_mm(8192);
+    }
+    Freeboard(0)
+}
+
+// The forecastle's height, if its length is at least 0.07 L.
+fn forecastle_taken(l: Span, length: Span, height: Span) -> Freeboard
+    requires { ⌜ (l .0 ≤ 365000) × (length .0 ≤ 365000) × (height .0 ≤ 8191) ⌝ }
+    ensures { λ r. ⌜ r .0 ≡ forecastleTaken (l .0) (length .0) (height .0) ⌝ }
+    ensures { λ r. ⌜ r .0 ≤ 8191000 ⌝ }
+{
+    let ship = l.0;
+    let own = length.0;
+    if 7 * ship <= 100 * own {
+        return units::freeboard_of_mm(height.0);
+    }
+    Freeboard(0)
+}
+
+// The whole step, on L, M, Cb and Cwf in ten thousandths, the ordinates at L/6 from FP and at FP, lifted by 8192 mm, and the
+// forecastle's length and height, both 0 where there is none.
+pub fn freeboard(
+    l: Span,
+    m: Span,
+    cb: u64,
+    cwf: u64,
+    sixth: u64,
+    fp: u64,
+    length: Span,
+    height: Span,
+) -> Freeboard
+    requires { ⌜ (l .0 ≤ 365000) × (1000 ≤ m .0) × (m .0 ≤ 60000) × (cwf ≤ 10000) ⌝ }
+    requires { ⌜ (fp < 16384) × (length .0 ≤ 365000) × (height .0 ≤ 8191) ⌝ }
+    ensures { λ r. ⌜ r .0 ≡ bowFreeboard (l .0) (m .0) cb cwf sixth fp (length .0) (height .0) ⌝ }
+    ensures { λ r. ⌜ r .0 ≤ 2 ^ 49 ⌝ }
+{
+    let above = up(l, m, cb, cwf);
+    let back = lift_back(sixth);
+    let below = down(l, m, cb, cwf);
+    let sheer = sheer_taken(sixth, fp);
+    let forecastle = forecastle_taken(l, length, height);
+    Freeboard(whole::less(above.0 + back.0, below.0 + (sheer.0 + forecastle.0)))
+}

@@ -1,0 +1,6 @@
+pub mod Short29
+pub mod Fullness30
+pub mod Depth31
+pub mod Deduction37
+pub mod Gathered
+pub mod Figures

@@ -1,0 +1,8 @@
+pub mod Order
+pub mod Counted
+pub mod Limits
+pub mod Rounded
+pub mod Midship
+pub mod Foremost
+pub mod Adding
+pub mod Figures

@@ -1,0 +1,34 @@
+-- 33: standard heights, in mm, unrounded.
+use Prim.Native.Nat.{ℕ, _*_, _-_, _≤_}
+use mathlib.Core.Bool.{Bool}
+use lib.Dec.{leb, ltb}
+use Rattle.whole.specs.Pick.{pick}
+use Rattle.whole.specs.Frac.{Frac, whole, frac, _+f_}
+use Rattle.houses.specs.declared.Standard.{Standard}
+
+-- linear from v at L = a to w at L = b
+abbrev pub linear : ℕ → ℕ → ℕ → ℕ → ℕ → Frac
+linear a v b w l = whole v +f frac ((w - v) * (l - a)) (b - a)
+
+-- 1800 mm up to L = 75 m, 2300 from 125 m
+unfoldable pub ordinaryHeight : ℕ → Frac
+ordinaryHeight l =
+    pick (leb l 75000) (whole 1800)
+    (pick (ltb l 125000) (linear 75000 1800 125000 2300 l) (whole 2300))
+
+-- raised quarterdeck 900 up to 30 m, 1200 at 75 m, 1800 from 125 m
+unfoldable pub raisedHeight : ℕ → Frac
+raisedHeight l =
+    pick (leb l 30000) (whole 900)
+    (pick (leb l 75000) (linear 30000 900 75000 1200 l)
+    (pick (ltb l 125000) (linear 75000 1200 125000 1800 l) (whole 1800)))
+
+unfoldable pub standardHeight : ℕ → Bool → Frac
+standardHeight l quarterdeck = pick quarterdeck (raisedHeight l) (ordinaryHeight l)
+
+-- a height of size / per mm, of numbers that leave room for products
+pub record Sized (s : Standard) : Type 0 where
+  pub size-least : 900 ≤ s .size
+  pub size-most : s .size ≤ 450000
+  pub per-least : 1 ≤ s .per
+  pub per-most : s .per ≤ 250

@@ -1,0 +1,7 @@
+pub mod Length
+pub mod Height
+pub mod Effective
+pub mod Covered
+pub mod Forecastle
+pub mod Cover
+pub mod Amount

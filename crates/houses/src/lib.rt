@@ -1,0 +1,221 @@
+// Houses on the freeboard deck (33 to 35): lengths, standard heights and effective lengths; the forecastle, and 38's cover amidships.
+ghost use mathlib.Core.Path.{_≡_};
+ghost use Prim.Native.Nat.{ℕ, _+_, _*_, _≤_};
+ghost use lib.ListN.{take};
+ghost use Rattle.whole.specs.Frac.{frac, _≈f_};
+ghost use Rattle.ship.specs.Good.{GoodHouse, GoodHouses};
+ghost use Rattle.houses.specs.Length.{partOf, total, coveredLength};
+ghost use Rattle.houses.specs.Height.{Sized, ordinaryHeight, raisedHeight, standardHeight};
+ghost use Rattle.houses.specs.Effective.{limitedLength, effectiveOf, effectiveLength};
+ghost use Rattle.houses.specs.Forecastle.{forecastleOf};
+ghost use Rattle.houses.specs.Cover.{reachOf, reach};
+ghost use Rattle.houses.specs.Amount.{amountOf};
+use ship::House;
+use units::Effective;
+use units::Span;
+use whole::greater;
+use whole::less;
+use whole::lesser;
+
+// A standard height, size / per mm: unrounded.
+pub struct Standard {
+    pub size: u64,
+    pub per: u64,
+}
+
+// What is summed over the houses.
+pub enum Measure {
+    Length,
+    Effective,
+    Reach,
+}
+
+// 34: a house's length, of which only the part between 0 and L counts.
+pub fn part(l: Span, h: House) -> Span
+    requires { ⌜ l .0 ≤ 365000 ⌝ }
+    ensures { λ r. ⌜ r .0 ≡ partOf (l .0) h ⌝ }
+    ensures { λ r. ⌜ r .0 ≤ l .0 ⌝ }
+{
+    let mm = l.0;
+    let aft = greater(h.aft.0, 1048576);
+    let fore = lesser(h.fore.0, 1048576 + mm);
+    let length = less(fore, aft);
+    if h.enclosed {
+        return Span(length);
+    }
+    Span(0)
+}
+
+// 33: the standard height of a house that is no raised quarterdeck.
+fn ordinary_height(l: u64) -> Standard
+    ensures { λ r. ⌜ frac (r .size) (r .per) ≈f ordinaryHeight l ⌝ }
+    ensures { λ r. ⌜ Sized r ⌝ }
+{
+    if l <= 75000 {
+        return Standard { size: 1800, per: 1 };
+    }
+    if l < 125000 {
+        return Standard {
+            size: l + 105000,
+            per: 100,
+        };
+    }
+    Standard { size: 2300, per: 1 }
+}
+
+// 33: the standard height of a raised quarterdeck.
+fn raised_height(l: u64) -> Standard
+    ensures { λ r. ⌜ frac (r .size) (r .per) ≈f raisedHeight l ⌝ }
+    ensures { λ r. ⌜ Sized r ⌝ }
+{
+    if l <= 30000 {
+        return Standard { size: 900, per: 1 };
+    }
+    if l <= 75000 {
+        return Standard {
+            size: l + 105000,
+            per: 150,
+        };
+    }
+    if l < 125000 {
+        return Standard {
+            size: 3 * l + 75000,
+            per: 250,
+        };
+    }
+    Standard { size: 1800, per: 1 }
+}
+
+// 33: the standard height of a house.
+fn standard_height(l: Span, quarterdeck: bool) -> Standard
+    ensures { λ r. ⌜ frac (r .size) (r .per) ≈f standardHeight (l .0) quarterdeck ⌝ }
+    ensures { λ r. ⌜ Sized r ⌝ }
+{
+    if quarterdeck {
+        return raised_height(l.0);
+    }
+    ordinary_height(l.0)
+}
+
+// 35: the length that counts in the effective length: a raised quarterdeck's is limited to 0.6 L.
+fn limited_length(l: Span, h: House) -> Effective
+    requires { ⌜ l .0 ≤ 365000 ⌝ }
+    ensures { λ r. ⌜ r .0 ≡ limitedLength (l .0) h ⌝ }
+    ensures { λ r. ⌜ r .0 ≤ 1000 * l .0 ⌝ }
+{
+    let mm = l.0;
+    let p = part(l, h);
+    let um = 1000 * p.0;
+    if h.quarterdeck {
+        return Effective(lesser(um, 600 * mm));
+    }
+    Effective(um)
+}
+
+// 35: the effective length of a house, rounded down.
+pub fn effective_of(l: Span, h: House) -> Effective
+    requires { ⌜ (l .0 ≤ 365000) × (h .height .0 ≤ 8191) ⌝ }
+    ensures { λ r. ⌜ r .0 ≡ effectiveOf (l .0) h ⌝ }
+    ensures { λ r. ⌜ r .0 ≤ 1000 * l .0 ⌝ }
+{
+    let length = limited_length(l, h);
+    let standard = standard_height(l, h.quarterdeck);
+    let size = standard.size;
+    let height = lesser(h.height.0 * standard.per, size);
+    Effective(whole::mul_div_down(length.0, height, size))
+}
+
+// 38: a house's reach before and abaft amidships, in tenths of a mm.
+fn reach_of(l: Span, h: House) -> u64
+    requires { ⌜ (l .0 ≤ 365000) × GoodHouse (l .0) h ⌝ }
+    ensures { λ r. ⌜ r ≡ reachOf (l .0) h ⌝ }
+    ensures { λ r. ⌜ r ≤ 2 * l .0 ⌝ }
+{
+    let tenth = l.0;
+    let aft = 10 * h.aft.0;
+    let fore = 10 * h.fore.0;
+    let amidships = 10485760 + 5 * tenth;
+    if h.enclosed & (aft <= amidships) & (amidships <= fore) {
+        return lesser(less(fore, amidships), tenth) + lesser(less(amidships, aft), tenth);
+    }
+    0
+}
+
+// One of the three amounts, of a house.
+fn amount(of: Measure, l: Span, h: House) -> u64
+    requires { ⌜ (l .0 ≤ 365000) × GoodHouse (l .0) h ⌝ }
+    ensures { λ r. ⌜ r ≡ amountOf of (l .0) h ⌝ }
+    ensures { λ r. ⌜ r ≤ 1000 * l .0 ⌝ }
+{
+    match of {
+        Measure::Length => {
+            let length = part(l, h);
+            length.0
+        }
+        Measure::Effective => {
+            let length = effective_of(l, h);
+            length.0
+        }
+        Measure::Reach => reach_of(l, h),
+    }
+}
+
+// One of the three amounts, summed over the first `n` houses.
+fn sum(of: Measure, l: Span, houses: [House; 8], n: usize) -> u64
+    requires { ⌜ (l .0 ≤ 365000) × (n ≤ 8) × GoodHouses (l .0) (take n houses) ⌝ }
+    ensures { λ r. ⌜ r ≡ total (amountOf of (l .0)) (take n houses) ⌝ }
+{
+    let mut sum: u64 = 0;
+    let mut k = 0;
+    while k < n {
+        let h = houses[k];
+        sum += amount(of, l, h);
+        k += 1;
+    }
+    sum
+}
+
+// 34: S.
+pub fn covered(l: Span, houses: [House; 8], n: usize) -> Span
+    requires { ⌜ (l .0 ≤ 365000) × (n ≤ 8) × GoodHouses (l .0) (take n houses) ⌝ }
+    ensures { λ r. ⌜ r .0 ≡ coveredLength (l .0) (take n houses) ⌝ }
+    ensures { λ r. ⌜ r .0 ≤ l .0 ⌝ }
+{
+    Span(sum(Measure::Length, l, houses, n))
+}
+
+// 35: E.
+pub fn effective(l: Span, houses: [House; 8], n: usize) -> Effective
+    requires { ⌜ (l .0 ≤ 365000) × (n ≤ 8) × GoodHouses (l .0) (take n houses) ⌝ }
+    ensures { λ r. ⌜ r .0 ≡ effectiveLength (l .0) (take n houses) ⌝ }
+    ensures { λ r. ⌜ r .0 ≤ 1000 * l .0 ⌝ }
+{
+    Effective(sum(Measure::Effective, l, houses, n))
+}
+
+// 38: the cover amidships, in tenths of a mm of the 0.2 L.
+pub fn cover(l: Span, houses: [House; 8], n: usize) -> u64
+    requires { ⌜ (l .0 ≤ 365000) × (n ≤ 8) × GoodHouses (l .0) (take n houses) ⌝ }
+    ensures { λ r. ⌜ r ≡ reach (l .0) (take n houses) ⌝ }
+    ensures { λ r. ⌜ r ≤ 2 * l .0 ⌝ }
+{
+    sum(Measure::Reach, l, houses, n)
+}
+
+// The forecastle, or an empty house where there is none.
+pub fn forecastle(l: Span, houses: [House; 8], n: usize) -> House
+    requires { ⌜ (l .0 ≤ 365000) × (n ≤ 8) × GoodHouses (l .0) (take n houses) ⌝ }
+    ensures { λ r. ⌜ r ≡ forecastleOf (l .0) (take n houses) ⌝ }
+    ensures { λ r. ⌜ r .height .0 ≤ 8191 ⌝ }
+{
+    let mm = l.0;
+    let mut k = 0;
+    while k < n {
+        let house = houses[k];
+        if house.enclosed & (1048576 + mm <= house.fore.0) {
+            return house;
+        }
+        k += 1;
+    }
+    ship::no_house()
+}

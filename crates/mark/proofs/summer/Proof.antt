@@ -1,0 +1,21 @@
+use Prim.Native.Nat.{_^_, _≤_}
+use native.Mathlib.Omega.{arith}
+use borrow.Author.Needs.{needs}
+use Rattle.whole.proofs.Divide.{ceil-most}
+use Rattle.mark.specs.Summer.{summerMark}
+use Rattle.mark.proofs.summer.Statement.{statement}
+use Rattle.mark.proofs.summer.Tie as tie
+
+pub summer-spec : {M : Type 1} → statement M
+unfolding summerMark
+summer-spec =
+    tie.close
+    (tie.spec
+    (λ c κs. search needs)
+    (λ c κs. search needs)
+    (λ c κs. search needs)
+    (λ c κs. search needs)
+    (λ c. let d = c .before in
+    let g = d .before in
+    let h : d .div-up .result ≤ 2 ^ 50 = rw (d .div-up .ensures) (ceil-most (g .greater .result) 1000 (2 ^ 50) (omega arith) (omega arith)) in
+    (rw (c .greater2 .ensures, d .div-up .ensures, g .greater .ensures, g .before .less .ensures), omega arith)))

@@ -1,0 +1,3 @@
+pub mod Summer
+pub mod Exact
+pub mod Others

@@ -1,0 +1,4 @@
+pub mod Words
+pub mod Rounded
+pub mod Bound
+pub mod Figures

@@ -1,0 +1,37 @@
+use Prim.Native.Nat.{_+_, _*_}
+use native.Mathlib.Omega.{arith}
+use borrow.Author.Needs.{needs}
+use Rattle.whole.proofs.Divide.{mul-most}
+use Rattle.sheer.specs.Sheer.{meanAbove, above, standardAfter, standardForward}
+use Rattle.sheer.proofs.over.Statement.{statement}
+use Rattle.sheer.proofs.over.Tie as tie
+
+pub over-spec : {M : Type 1} → statement M
+unfolding meanAbove above standardAfter standardForward
+over-spec =
+    tie.close
+    (tie.spec
+    (λ c. search needs)
+    (λ c. search needs)
+    (λ c κs. search needs)
+    (λ c. omega (arith, mul-most (c .after .result) (667 * (c .before .args .l .0 + 30000)) 1720110000 263465000 (omega arith) (omega arith)))
+    (λ c. search needs)
+    (λ c. search needs)
+    (λ c. search needs)
+    (λ c κs. search needs)
+    (λ c κs. search needs)
+    (λ c. omega (arith, mul-most (c .before .less .result) (c .share .result) 1720110000 263465000 (omega arith) (omega arith)))
+    (λ c. let w = 667 * (c .before .before .before .args .l .0 + 30000) in
+    omega (
+      arith,
+      mul-most (c .before .before .after .result) w 1720110000 263465000 (omega arith) (omega arith),
+      mul-most (c .before .less .result) (c .share .result) 1720110000 263465000 (omega arith) (omega arith),
+    ))
+    (λ c. let w = 667 * (c .before .before .before .args .l .0 + 30000) in (
+      rw (c .before .before .after .ensures .0, c .before .less .ensures, c .share .ensures .0),
+      omega (
+        arith,
+        mul-most (c .before .before .after .result) w 1720110000 w (omega arith) (omega arith),
+        mul-most (c .before .less .result) (c .share .result) 1720110000 w (omega arith) (omega arith),
+      ),
+    )))

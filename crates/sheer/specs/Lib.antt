@@ -1,0 +1,2 @@
+pub mod Sheer
+pub mod Exact

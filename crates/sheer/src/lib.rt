@@ -1,0 +1,134 @@
+// Sheer (regulation 38): what it adds to the freeboard and what it deducts, one of them 0.
+ghost use mathlib.Core.Path.{_≡_};
+ghost use Prim.Native.Nat.{_+_, _*_, _≤_, _<_};
+ghost use Rattle.sheer.specs.Sheer.{Lifted, weighted, afterCounts, forwardShare, meanAbove, meanLacks, excess, deficiency, addition, deduction, added, deducted};
+use units::Freeboard;
+use units::Span;
+
+// Seven ordinates' lift of 8192 mm, in 30000ths of a millimetre.
+const LIFT: u64 = 1720320000;
+
+// The correction in its two parts.
+pub struct Correction {
+    pub added: Freeboard,
+    pub deducted: Freeboard,
+}
+
+// The mean of both halves, in two parts of which one is 0.
+struct Mean {
+    pub deficiency: Freeboard,
+    pub excess: Freeboard,
+}
+
+// A half's sum of three lifted ordinates, in 30000ths of a millimetre.
+fn half(perpendicular: u64, sixth: u64, third: u64) -> u64
+    requires { ⌜ (perpendicular < 16384) × (sixth < 16384) × (third < 16384) ⌝ }
+    ensures { λ r. ⌜ r ≡ 30000 * weighted perpendicular sixth third ⌝ }
+    ensures { λ r. ⌜ r ≤ 3440430000 ⌝ }
+{
+    30000 * (perpendicular + 3 * sixth + 3 * third)
+}
+
+// What of a forward excess counts, over the after half's standard w.
+fn share(a: u64, w: u64) -> u64
+    requires { ⌜ (a ≤ 3440430000) × (w ≤ 263465000) ⌝ }
+    ensures { λ r. ⌜ r ≡ forwardShare a w ⌝ }
+    ensures { λ r. ⌜ r ≤ w ⌝ }
+{
+    if 4 * LIFT + 3 * w <= 4 * a {
+        return w;
+    }
+    if 2 * a <= 2 * LIFT + w {
+        return 0;
+    }
+    4 * a - (4 * LIFT + 2 * w)
+}
+
+// What of an after excess counts.
+fn after(a: u64, f: u64, l: Span) -> u64
+    requires { ⌜ (a ≤ 3440430000) × (f ≤ 3440430000) × (l .0 ≤ 365000) ⌝ }
+    ensures { λ r. ⌜ r ≡ afterCounts a f (l .0) ⌝ }
+    ensures { λ r. ⌜ r ≤ 1720110000 ⌝ }
+{
+    let mm = l.0;
+    if f < LIFT + 1334 * (mm + 30000) {
+        return 0;
+    }
+    whole::less(a, LIFT + 667 * (mm + 30000))
+}
+
+// Both halves' excess as it counts, over 480 after standards.
+fn over(a: u64, f: u64, l: Span) -> u64
+    requires { ⌜ (a ≤ 3440430000) × (f ≤ 3440430000) × (l .0 ≤ 365000) ⌝ }
+    ensures { λ r. ⌜ r ≡ meanAbove a f (l .0) ⌝ }
+    ensures { λ r. ⌜ r ≤ 3440220000 * (667 * (l .0 + 30000)) ⌝ }
+{
+    let mm = l.0;
+    let w = 667 * (mm + 30000);
+    after(a, f, l) * w + whole::less(f, LIFT + 1334 * (mm + 30000)) * share(a, w)
+}
+
+// Both halves' deficiency, over 480 after standards.
+fn under(a: u64, f: u64, l: Span) -> u64
+    requires { ⌜ (a ≤ 3440430000) × (f ≤ 3440430000) × (l .0 ≤ 365000) ⌝ }
+    ensures { λ r. ⌜ r ≡ meanLacks a f (l .0) ⌝ }
+    ensures { λ r. ⌜ r ≤ 4231035000 * (667 * (l .0 + 30000)) ⌝ }
+{
+    let mm = l.0;
+    let w = 667 * (mm + 30000);
+    (whole::less(LIFT + w, a) + whole::less(LIFT + 1334 * (mm + 30000), f)) * w
+}
+
+// The mean of both halves, rounded down.
+fn mean_of(a: u64, f: u64, l: Span) -> Mean
+    requires { ⌜ (a ≤ 3440430000) × (f ≤ 3440430000) × (l .0 ≤ 365000) ⌝ }
+    ensures { λ r. ⌜ (r .deficiency .0 ≡ deficiency a f (l .0)) × (r .excess .0 ≡ excess a f (l .0)) ⌝ }
+    ensures { λ r. ⌜ (r .deficiency .0 ≤ 9000000) × (r .excess .0 ≤ 7200000) ⌝ }
+{
+    let p = over(a, f, l);
+    let q = under(a, f, l);
+    let mm = l.0;
+    let d = 480 * (667 * (mm + 30000));
+    Mean {
+        deficiency: Freeboard(whole::div_up(whole::less(q, p), d)),
+        excess: Freeboard(whole::less(p, q) / d),
+    }
+}
+
+// What a deficiency adds.
+fn add(deficiency: Freeboard, l: Span, s: Span) -> Freeboard
+    requires { ⌜ (deficiency .0 ≤ 9000000) × (24000 ≤ l .0) × (l .0 ≤ 365000) × (s .0 ≤ l .0) ⌝ }
+    ensures { λ r. ⌜ r .0 ≡ addition (deficiency .0) (l .0) (s .0) ⌝ }
+    ensures { λ r. ⌜ r .0 ≤ 9000000 ⌝ }
+{
+    let mm = l.0;
+    Freeboard(whole::mul_div_up(deficiency.0, 3 * mm - 2 * s.0, 4 * mm))
+}
+
+// What an excess deducts.
+fn deduct(excess: Freeboard, l: Span, s: Span, reach: u64) -> Freeboard
+    requires { ⌜ (excess .0 ≤ 7200000) × (24000 ≤ l .0) × (l .0 ≤ 365000) × (s .0 ≤ l .0) × (reach ≤ 2 * l .0) ⌝ }
+    ensures { λ r. ⌜ r .0 ≡ deduction (excess .0) (l .0) (s .0) reach ⌝ }
+    ensures { λ r. ⌜ r .0 ≤ 456250 ⌝ }
+{
+    let mm = l.0;
+    let full = whole::mul_div_down(excess.0, (3 * mm - 2 * s.0) * reach, 8 * (mm * mm));
+    Freeboard(whole::lesser(full, 5 * mm / 4))
+}
+
+// The whole step. The ordinates are AP, L/6, L/3 from AP, then L/3, L/6 from FP, FP, each lifted by 8192 mm; `s` is the length that
+// enclosed houses cover; `reach` is the cover's, before amidships and abaft, in tenths of a millimetre.
+pub fn correct(l: Span, ordinates: [u64; 6], s: Span, reach: u64) -> Correction
+    requires { ⌜ (24000 ≤ l .0) × (l .0 ≤ 365000) × (s .0 ≤ l .0) × (reach ≤ 2 * l .0) ⌝ }
+    requires { ⌜ Lifted ordinates ⌝ }
+    ensures { λ r. ⌜ (r .added .0 ≡ added ordinates (l .0) (s .0)) × (r .deducted .0 ≡ deducted ordinates (l .0) (s .0) reach) ⌝ }
+    ensures { λ r. ⌜ (r .added .0 ≤ 9000000) × (r .deducted .0 ≤ 456250) ⌝ }
+{
+    let a = half(ordinates[0], ordinates[1], ordinates[2]);
+    let f = half(ordinates[5], ordinates[4], ordinates[3]);
+    let m = mean_of(a, f, l);
+    Correction {
+        added: add(m.deficiency, l, s),
+        deducted: deduct(m.excess, l, s, reach),
+    }
+}

@@ -9,7 +9,7 @@ use Rattle.whole.specs.Round.{Within, Below}
 use Rattle.whole.proofs.Divide.{ceil-nought, mul-most}
 use Rattle.whole.proofs.Frac.{bot-of}
 use Rattle.whole.proofs.Round.{loosen, restate, up, down, sum, less, below-sum, exactly, exactly-below, over-up, over-down, mult-up, mult-down, loosen-below, restate-below, nought, nought-below}
-use Rattle.bow.specs.Bow.{cubic, rises, falls, b1Up, b1Down, b2Above, b2Below, higher, lower, liftBack, sheerTaken, forecastleTaken, bowFreeboard}
+use Rattle.bow.specs.Bow.{cubic, rises, falls, b1Up, b1Down, b2Above, b2Below, higher, lower, sheerTaken, forecastleTaken, bowFreeboard}
 use Rattle.bow.specs.Exact.{exactHigher, exactLower, exactBow}
 use Rattle.bow.proofs.Cubic.{cubic-most}
 use Rattle.bow.proofs.Words.{higher-words, lower-words}
@@ -63,7 +63,7 @@ pub bow-within : (L M cb cwf sixth fp l height : ℕ) → 1000 ≤ M → L ≤ 3
     → Within (bowFreeboard L M cb cwf sixth fp l height) (exactBow L M cb cwf sixth fp l height) (whole 14)
 unfolding bowFreeboard exactBow
 bow-within L M cb cwf sixth fp l height h k g =
-    let back = exactly (liftBack sixth) in
+    let back = exactly (sheerTaken sixth 8192) in
     let taken = below-sum (exactly-below (sheerTaken sixth fp)) (exactly-below (forecastleTaken L l height)) in
     elim (decLt (rises M cb) (falls L M cwf)) [
       | yes t ↦ loosen (omega arith) (less (sum (no-higher L M cb cwf (omega arith) (omega arith)) back) (below-sum (lower-below L M cb cwf h k g) taken))

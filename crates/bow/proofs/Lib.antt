@@ -1,4 +1,3 @@
 pub mod Cubic
 pub mod Words
 pub mod Bound
-pub mod Figures

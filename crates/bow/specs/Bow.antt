@@ -37,12 +37,9 @@ higher L M cb cwf = ceilDiv (b1Up L * b2Above L M cb cwf) 1000000
 unfoldable pub lower : ℕ → ℕ → ℕ → ℕ → ℕ
 lower L M cb cwf = b1Down L * b2Below L M cb cwf / 1000000
 
--- ---- 39(2): from it take the sheer at FP, signed, if the ordinate at L/6 from FP is above zero. Ordinates are lifted by 8192 mm: the lift is given back
+-- ---- 39(2): from it take the sheer at FP, signed, if the ordinate at L/6 from FP is above zero. Ordinates are lifted by 8192 mm: the lift is given back by the same test
 unfoldable pub sheerTaken : ℕ → ℕ → ℕ
 sheerTaken sixth fp = pick (ltb 8192 sixth) (1000 * fp) 0
-
-unfoldable pub liftBack : ℕ → ℕ
-liftBack sixth = pick (ltb 8192 sixth) (1000 * 8192) 0
 
 -- and the forecastle's height, if its l is at least 0.07 L; where there is no forecastle its l is 0
 unfoldable pub forecastleTaken : ℕ → ℕ → ℕ → ℕ
@@ -51,4 +48,4 @@ forecastleTaken L l height = pick (leb (7 * L) (100 * l)) (1000 * height) 0
 -- One difference, at the end. A freeboard below zero counts as 0: the summer mark's floor stands above it
 unfoldable pub bowFreeboard : ℕ → ℕ → ℕ → ℕ → ℕ → ℕ → ℕ → ℕ → ℕ
 bowFreeboard L M cb cwf sixth fp l height =
-    higher L M cb cwf + liftBack sixth - (lower L M cb cwf + (sheerTaken sixth fp + forecastleTaken L l height))
+    higher L M cb cwf + sheerTaken sixth 8192 - (lower L M cb cwf + (sheerTaken sixth fp + forecastleTaken L l height))

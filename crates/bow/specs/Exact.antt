@@ -1,7 +1,7 @@
 -- Bow height (regulation 39) with no rounding, in the regulation's own fractions. Freeboards in um.
 use Prim.Native.Nat.{ℕ, _*_, min}
 use Rattle.whole.specs.Frac.{Frac, _+f_, _*f_, _-f_, whole, frac}
-use Rattle.bow.specs.Bow.{liftBack, sheerTaken, forecastleTaken}
+use Rattle.bow.specs.Bow.{sheerTaken, forecastleTaken}
 
 -- x = L/100, L in metres
 unfoldable pub hundreds : ℕ → Frac
@@ -28,4 +28,4 @@ exactLower L M cb cwf = exactB1 L *f (exactFalls L M cwf -f exactRises cb)
 -- from it the sheer at FP and the forecastle's height, which are whole
 unfoldable pub exactBow : ℕ → ℕ → ℕ → ℕ → ℕ → ℕ → ℕ → ℕ → Frac
 exactBow L M cb cwf sixth fp l height =
-    exactHigher L M cb cwf +f whole (liftBack sixth) -f (exactLower L M cb cwf +f (whole (sheerTaken sixth fp) +f whole (forecastleTaken L l height)))
+    exactHigher L M cb cwf +f whole (sheerTaken sixth 8192) -f (exactLower L M cb cwf +f (whole (sheerTaken sixth fp) +f whole (forecastleTaken L l height)))

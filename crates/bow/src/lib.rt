@@ -1,7 +1,7 @@
 // Bow height (regulation 39): the freeboard that it asks for.
 ghost use mathlib.Core.Path.{_≡_};
 ghost use Prim.Native.Nat.{_+_, _*_, _^_, _≤_, _<_};
-ghost use Rattle.bow.specs.Bow.{cubic, rises, falls, higher, lower, sheerTaken, liftBack, forecastleTaken, bowFreeboard};
+ghost use Rattle.bow.specs.Bow.{cubic, rises, falls, higher, lower, sheerTaken, forecastleTaken, bowFreeboard};
 use units::Freeboard;
 use units::Span;
 
@@ -60,7 +60,7 @@ fn down(l: Span, m: Span, cb: u64, cwf: u64) -> Freeboard
     Freeboard(b1 * b2 / 1000000)
 }
 
-// The sheer at FP with its lift, if the ordinate at L/6 from FP is above zero.
+// The sheer at FP, or its lift, if the ordinate at L/6 from FP is above zero.
 fn sheer_taken(sixth: u64, fp: u64) -> Freeboard
     requires { ⌜ fp < 16384 ⌝ }
     ensures { λ r. ⌜ r .0 ≡ sheerTaken sixth fp ⌝ }
@@ -68,17 +68,6 @@ fn sheer_taken(sixth: u64, fp: u64) -> Freeboard
 {
     if 8192 < sixth {
         return units::freeboard_of_mm(fp);
-    }
-    Freeboard(0)
-}
-
-// That lift, to be given back.
-fn lift_back(sixth: u64) -> Freeboard
-    ensures { λ r. ⌜ r .0 ≡ liftBack sixth ⌝ }
-    ensures { λ r. ⌜ r .0 ≤ 8192000 ⌝ }
-{
-    if 8192 < sixth {
-        return units::freeboard_of_mm(8192);
     }
     Freeboard(0)
 }
@@ -115,7 +104,7 @@ pub fn freeboard(
     ensures { λ r. ⌜ r .0 ≤ 2 ^ 49 ⌝ }
 {
     let above = up(l, m, cb, cwf);
-    let back = lift_back(sixth);
+    let back = sheer_taken(sixth, 8192);
     let below = down(l, m, cb, cwf);
     let sheer = sheer_taken(sixth, fp);
     let forecastle = forecastle_taken(l, length, height);

@@ -3,4 +3,3 @@ pub mod Fullness30
 pub mod Depth31
 pub mod Deduction37
 pub mod Gathered
-pub mod Figures

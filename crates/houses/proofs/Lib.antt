@@ -5,4 +5,3 @@ pub mod Rounded
 pub mod Midship
 pub mod Foremost
 pub mod Adding
-pub mod Figures

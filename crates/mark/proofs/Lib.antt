@@ -1,3 +1,2 @@
 pub mod Bound
 pub mod OneToOne
-pub mod Figures

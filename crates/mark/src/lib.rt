@@ -108,7 +108,7 @@ pub fn follow(
     if mm <= s {
         return Outcome::NoDraught;
     }
-    let d = mm - s;
+    let d = whole::less(mm, s);
     let fresh = allowance_of(displacement, immersion, d);
     if d < fresh {
         return Outcome::FreshAllowance;

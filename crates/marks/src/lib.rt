@@ -1,7 +1,9 @@
 // The six marks of a ship, or of any bytes as a ship record: refusals 1 to 13 in the table's order.
 ghost use mathlib.Core.Path.{_≡_};
+ghost use Rattle.record.specs.Layout.{shipIn};
 ghost use Rattle.marks.specs.Steps.{Sound};
 ghost use Rattle.marks.specs.Marks.{sheet, sheetFor, sheetIn};
+ghost use Rattle.marks.specs.Exact.{Bounded};
 use mark::Marks;
 use mark::Outcome;
 use record::reader;
@@ -20,7 +22,8 @@ pub enum Answer {
 // The marks of a ship that the reader accepts, or refusal 12 or 13.
 pub fn of_ship(x: Ship) -> Answer
     requires { ⌜ Sound x ⌝ }
-    ensures { λ r. ⌜ sheet r ≡ sheetFor x ⌝ }
+    ensures equation { λ r. ⌜ sheet r ≡ sheetFor x ⌝ }
+    ensures bounded { λ r. ⌜ Bounded r x ⌝ }
 {
     let s = steps::summer(x);
     let depth = x.depth;
@@ -35,7 +38,8 @@ pub fn of_ship(x: Ship) -> Answer
 
 // The marks of any bytes.
 pub fn of_record(s: &[u8]) -> Answer
-    ensures { λ r. ⌜ sheet r ≡ sheetIn (now (s .entry)) ⌝ }
+    ensures equation { λ r. ⌜ sheet r ≡ sheetIn (now (s .entry)) ⌝ }
+    ensures bounded { λ r. ⌜ Bounded r (shipIn (now (s .entry))) ⌝ }
 {
     let a = reader::read(s);
     let v = a.verdict;

@@ -1,4 +1,3 @@
 pub mod Words
 pub mod Rounded
 pub mod Bound
-pub mod Figures

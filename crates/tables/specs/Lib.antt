@@ -3,4 +3,3 @@ pub mod Tabular
 pub mod Rule28
 pub mod Table37
 pub mod Percentages
-pub mod Known

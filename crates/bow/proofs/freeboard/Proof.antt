@@ -22,4 +22,4 @@ freeboard-spec =
     let s = f .before in
     let d = s .before in
     let b = d .before in
-    (rw (c .less .ensures, b .before .up .ensures .0, b .lift-back .ensures .0, d .down .ensures .0, s .sheer-taken .ensures .0, f .forecastle-taken .ensures .0), omega (arith, c .less .ensures, b .before .up .ensures .1, b .lift-back .ensures .1))))
+    (rw (c .less .ensures, b .before .up .ensures .0, b .sheer-taken .ensures .0, d .down .ensures .0, s .sheer-taken2 .ensures .0, f .forecastle-taken .ensures .0), omega (arith, c .less .ensures, b .before .up .ensures .1, b .sheer-taken .ensures .1))))

@@ -14,15 +14,17 @@ follow-spec =
     tie.close
     (tie.spec
     (λ c. simp (le-leb (c .before .args .depth .0) (c .before .args .s) (omega arith)))
-    (λ c. search needs)
+    (λ c κs. search needs)
     (λ c κs. search needs)
     (λ c. let a = c .before in
-    let g = a .before .before .args in
+    let g = a .before .before .before .args in
     let d = g .depth .0 - g .s in
-    simp (lt-leb (g .depth .0) (g .s) (omega arith), lt-ltb d (allowance (g .displacement) (g .immersion) d) (omega (arith, a .allowance-of .ensures .0))))
+    let e = a .before .less .ensures in
+    simp (lt-leb (g .depth .0) (g .s) (omega arith), lt-ltb d (allowance (g .displacement) (g .immersion) d) (omega (arith, e, rw e at (a .allowance-of .ensures .0)))))
     (λ c κs. search needs)
     (λ c. let a = c .before .before in
-    let g = a .before .before .args in
+    let g = a .before .before .before .args in
     let d = g .depth .0 - g .s in
-    simp (lt-leb (g .depth .0) (g .s) (omega arith), le-ltb d (allowance (g .displacement) (g .immersion) d) (omega (arith, a .allowance-of .ensures .0)))
-    (ap given (rw (a .allowance-of .ensures .0) at (c .six-marks .ensures)))))
+    let e = a .before .less .ensures in
+    simp (lt-leb (g .depth .0) (g .s) (omega arith), le-ltb d (allowance (g .displacement) (g .immersion) d) (omega (arith, e, rw e at (a .allowance-of .ensures .0))))
+    (ap given (rw (a .allowance-of .ensures .0, e) at (c .six-marks .ensures)))))

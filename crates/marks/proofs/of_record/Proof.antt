@@ -4,6 +4,7 @@ use Rattle.ship.specs.declared.refusal.Verdict.{Verdict}
 use Rattle.ship.specs.Refusals.{paper, accepted}
 use Rattle.record.specs.Reading.{Reading, readingIn}
 use Rattle.record.proofs.Theorems.{read-is-good}
+use Rattle.marks.proofs.Demand.{bounded-in}
 use Rattle.marks.proofs.Sheet.{sheet-read, sheet-refused}
 use borrow.Author.Needs.{needs}
 use Rattle.marks.proofs.of_record.Statement.{statement}
@@ -28,9 +29,14 @@ of-record-spec =
     let g = read-is-good (now (r .before .before .args .s)) (r .read .result .ship) (told a) in
     record { type = g .0; few = g .1; good = g .2 })
     (λ c. search needs)
-    (λ c. let a = c .before .before in
+    (λ c.
+    let a = c .before .before in
     let r = a .before .before in
-    c .of-ship .ensures ∙ sym (sheet-read (now (r .before .before .args .s)) (r .read .result .ship) (told a)))
-    (λ c. let v = c .before in
+    let s = now (r .before .before .args .s) in
+    let e = c .of-ship .ensures .0 ∙ sym (sheet-read s (r .read .result .ship) (told a)) in
+    (e, bounded-in s (c .of-ship .result) e))
+    (λ c.
+    let v = c .before in
     let r = v .before .before in
-    sym (sheet-refused (now (r .before .before .args .s)) (v .v .given .0 .0) (sym (ap (λ (a : Reading). a .verdict) (r .read .ensures)) ∙ ap paper (v .v .given .1)))))
+    let s = now (r .before .before .args .s) in
+    (sym (sheet-refused s (v .v .given .0 .0) (sym (ap (λ (a : Reading). a .verdict) (r .read .ensures)) ∙ ap paper (v .v .given .1))), tt)))

@@ -4,6 +4,8 @@ use Prim.Native.Nat.{ℕ}
 use Rattle.mark.specs.Others as Others
 use Rattle.mark.specs.declared.Outcome.{Outcome}
 use Rattle.marks.specs.Marks.{sheetFor}
+use Rattle.marks.specs.declared.Answer.the-variants.{Given}
+use Rattle.marks.proofs.Demand.{bounded}
 use Rattle.marks.proofs.Sheet.{asSheet, sheet-follows}
 use borrow.Author.Needs.{needs}
 use Rattle.marks.proofs.of_ship.Statement.{statement}
@@ -26,6 +28,11 @@ of-ship-spec =
     (λ c. search needs)
     (λ c. search needs)
     (λ c. search needs)
-    (λ c. sym (ap (λ (o : Outcome). asSheet (Others.paper o)) (c .before .o .given .1)) ∙ followed (c .before .before .before))
-    (λ c. sym (ap (λ (o : Outcome). asSheet (Others.paper o)) (c .enum-told .given .1)) ∙ followed (c .before .before))
-    (λ c. sym (ap (λ (o : Outcome). asSheet (Others.paper o)) (c .enum-told2 .given .1)) ∙ followed (c .before .before)))
+    (λ c.
+    let o = c .before in
+    let f = o .before .before in
+    let s = f .before .before .before .before in
+    let e = sym (ap (λ (o : Outcome). asSheet (Others.paper o)) (o .o .given .1)) ∙ followed f in
+    (e, bounded (s .args .x) (s .pre) (Given (o .o .given .0 .0)) e))
+    (λ c. (sym (ap (λ (o : Outcome). asSheet (Others.paper o)) (c .enum-told .given .1)) ∙ followed (c .before .before), tt))
+    (λ c. (sym (ap (λ (o : Outcome). asSheet (Others.paper o)) (c .enum-told2 .given .1)) ∙ followed (c .before .before), tt)))

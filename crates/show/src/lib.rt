@@ -1,6 +1,7 @@
 // Prints numbers, ships and refusals in document 01's own terms. What is printed is run and compared, not proved.
-ghost use Prim.Native.Nat.{_≤_};
 use libc::STDOUT_FILENO;
+use mark::Marks;
+use marks::Answer;
 use ship::House;
 use ship::Ship;
 use ship::refusal;
@@ -18,6 +19,15 @@ pub fn number(n: u64) {
 pub fn next(n: u64) {
     text(b" ");
     number(n);
+}
+
+// A space, and a number with its sign.
+pub fn next_signed(n: i64) {
+    text(b" ");
+    if n < 0 {
+        text(b"-");
+    }
+    number(whole::size(n));
 }
 
 // A space, and `n` counted from `zero`, with its sign.
@@ -100,4 +110,26 @@ pub fn vessel(x: Ship) {
     next(x.n as u64);
     let hs = x.houses;
     houses(hs, x.n);
+}
+
+fn six(m: Marks) {
+    text(b"S");
+    next(m.s);
+    text(b" T");
+    next(m.t);
+    text(b" W");
+    next(m.w);
+    text(b" WNA");
+    next(m.wna);
+    text(b" F");
+    next_signed(m.f);
+    text(b" TF");
+    next_signed(m.tf);
+}
+
+pub fn answer(a: Answer) {
+    match a {
+        Answer::Given(m) => six(m),
+        Answer::Refused(r) => refused(r),
+    }
 }

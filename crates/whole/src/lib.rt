@@ -1,7 +1,7 @@
-// Divisions rounded up and down, the lesser and the greater of two, and differences.
+// Divisions rounded up and down, the lesser and the greater of two, differences, and the size of a signed number.
 ghost use mathlib.Core.Path.{_≡_};
 ghost use Prim.Native.Nat.{_+_, _*_, _-_, _/_, _^_, _≤_, _<_, min, max};
-ghost use lib.IntN.{pos, _-ℤ_};
+ghost use lib.IntN.{natAbs, pos, _-ℤ_};
 ghost use Rattle.whole.specs.Divide.{ceilDiv};
 
 // a * b / d, rounded up.
@@ -55,4 +55,15 @@ pub fn minus(a: u64, b: u64) -> i64
     ensures { λ r. ⌜ r ≡ pos a -ℤ pos b ⌝ }
 {
     (a as i64) - (b as i64)
+}
+
+// The size of a number, without its sign.
+pub fn size(n: i64) -> u64
+    ensures { λ r. ⌜ r ≡ natAbs n ⌝ }
+{
+    if n < 0 {
+        ((-1 - n) as u64) + 1
+    } else {
+        n as u64
+    }
 }

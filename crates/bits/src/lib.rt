@@ -1,7 +1,7 @@
 // Fields of bits side by side in bytes, most significant bit first.
 ghost use mathlib.Core.Path.{_≡_};
-ghost use Prim.Native.Nat.{_+_, _-_, _*_, _^_, _≤_, _<_};
-ghost use lib.ListN.{length, take};
+ghost use Prim.Native.Nat.{_+_, _-_, _*_, _≤_, _<_};
+ghost use lib.ListN.{length};
 ghost use Rattle.bits.specs.Fields.{number, piece, pack, unpack, total, bytes, Fit, Narrow, Gathered};
 
 fn wide(x: u8) -> u64

@@ -9,7 +9,6 @@ use Rattle.whole.specs.Frac.{Frac}
 use Rattle.units.specs.Datum.{stationOf}
 use Rattle.tables.specs.Table28.{table28A, table28B}
 use Rattle.tables.specs.Tabular.{tabular}
-use Rattle.tables.specs.Table37.{ordinaryRow}
 use Rattle.ship.specs.declared.House.{House}
 use Rattle.ship.specs.declared.Ship.{Ship}
 use Rattle.ship.specs.Vessel.{lift, noHouse}
@@ -20,7 +19,6 @@ use Rattle.houses.specs.Cover.{reach}
 use Rattle.corrections.specs.Depth31.{depthAddition}
 use Rattle.sheer.specs.Sheer as Sheer
 use Rattle.bow.specs.Bow.{higher, lower}
-use Rattle.mark.specs.declared.Marks.{Marks}
 use Rattle.marks.specs.Steps.{addedTo, takenFrom}
 use Rattle.marks.specs.Marks.{sheetFor}
 

@@ -1,6 +1,6 @@
 // Houses on the freeboard deck (33 to 35): lengths, standard heights and effective lengths; the forecastle, and 38's cover amidships.
 ghost use mathlib.Core.Path.{_≡_};
-ghost use Prim.Native.Nat.{ℕ, _+_, _*_, _≤_};
+ghost use Prim.Native.Nat.{_+_, _*_, _≤_};
 ghost use lib.ListN.{take};
 ghost use Rattle.whole.specs.Frac.{frac, _≈f_};
 ghost use Rattle.ship.specs.Good.{GoodHouse, GoodHouses};

@@ -1,7 +1,7 @@
 // Writes each ship that an argument names into a buffer of the length it names, and prints the verdict and the whole buffer.
 // A file is 56 numbers of eight bytes: the buffer's length, the ship's numbers as they are held, and eight houses of five numbers.
 // What must come is in `stdout`, made by `samples writes` of twin/, which shares no code with the crates.
-ghost use Prim.Native.Nat.{_≤_, _<_};
+ghost use Prim.Native.Nat.{_<_};
 ghost use lib.ListN.{length};
 use libc::STDOUT_FILENO;
 use record::writer;

@@ -15,7 +15,7 @@ use Rattle.ship.proofs.Lines.{first-skip, first-append}
 use Rattle.ship.proofs.OneToOne.{number-above-0}
 use Rattle.record.specs.Layout.{shipIn}
 use Rattle.record.specs.Reading.{frameLines, readingIn}
-use Rattle.record.proofs.RoundTrip.{passes-all, ship-is}
+use Rattle.record.proofs.Framed.{passes-all, ship-is}
 use Rattle.mark.specs.declared.Marks.{Marks}
 use Rattle.mark.specs.Others as Others
 use Rattle.mark.specs.Others.{allowance, sixMarks}

@@ -1,12 +1,9 @@
 -- Demand 2's exact value: the same steps, tests and floor for a ship, with no rounding anywhere. Freeboards in um, the mark in mm.
-use Prim.Native.Nat.{ℕ}
-use mathlib.Core.List.{List}
 use lib.ListN.{getD}
 use Rattle.whole.specs.Frac.{Frac, _+f_}
 use Rattle.tables.specs.Table37.{ordinaryRow}
 use Rattle.ship.specs.declared.Ship.{Ship}
 use Rattle.ship.specs.Vessel.{housesOf}
-use Rattle.record.specs.Layout.{shipIn}
 use Rattle.houses.specs.Length.{partOf}
 use Rattle.houses.specs.Effective.{exactEffective, exactEffectiveLength}
 use Rattle.corrections.specs.Gathered as Before

@@ -2,7 +2,7 @@
 use Prim.Native.Nat.{ℕ, _+_, _*_, _≤_}
 use mathlib.Core.Bool.{not}
 use mathlib.Core.List.{List, _++_}
-use mathlib.Core.Path.{_≡_, refl, ap, _∙_}
+use mathlib.Core.Path.{_≡_, refl, sym, ap, subst, _∙_}
 use lib.ListN.{length}
 use lib.Dec.{eqb, ltb}
 use borrow.Author.Tests.{ltb-false, eqb-true, not-false, ne-eqb, le-ltb, eq-eqb}
@@ -13,10 +13,12 @@ use Rattle.ship.specs.declared.refusal.Refusal.{Refusal}
 use Rattle.ship.specs.Vessel.{noShip}
 use Rattle.ship.specs.Refusals.{Paper, accepted, refused, numberOf, placeOf, first}
 use Rattle.ship.specs.Checks.{shipLines}
-use Rattle.ship.proofs.Lines.{AllPass, all-pass, first-append, first-passed, or-false}
+use Rattle.ship.proofs.Lines.{AllPass, all-pass, all-pass-split, first-append, first-passed, or-false}
+use Rattle.ship.specs.Good.{Good}
+use Rattle.ship.proofs.Accepted.{good}
 use Rattle.ship.proofs.OneToOne.{number-above-0}
 use Rattle.record.specs.Layout.{version, kind, count, spare, shipIn}
-use Rattle.record.specs.Reading.{frameLines, firstSpare, readingOf, readingIn}
+use Rattle.record.specs.Reading.{Reading, frameLines, firstSpare, readingOf, readingIn}
 
 pub record Framed (s : List ℕ) : Type 0 where
   pub long : 27 ≤ length s
@@ -84,3 +86,25 @@ reading-unframed s r e =
     let t : first (frameLines s ++ shipLines (shipIn s)) ≡ refused (numberOf r) (placeOf r) =
     first-append (frameLines s) (shipLines (shipIn s)) (omega arith) ∙ rw (e, ne-eqb (numberOf r) 0 n) refl in
     ap (λ (p : Paper). readingOf p (shipIn s)) t ∙ reading-refused r (shipIn s)
+
+-- ---- what an accepted reading shows of its ship
+module _ (s : List ℕ) (x : Ship) (e : readingIn s ≡ record { verdict = accepted; ship = x }) where
+  pub passes-all : AllPass (frameLines s) × AllPass (shipLines (shipIn s))
+  unfolding readingIn
+  passes-all =
+      all-pass-split (frameLines s) (shipLines (shipIn s))
+      (all-pass (frameLines s ++ shipLines (shipIn s)) (omega arith) (ap (λ (r : Reading). r .verdict .number) e))
+
+  pub ship-is : shipIn s ≡ x
+  unfolding pick
+  ship-is =
+      let t = reading-framed s (first-passed (frameLines s) (passes-all .0)) in
+      let u = first-passed (shipLines (shipIn s)) (passes-all .1) in
+      ap (λ (r : Reading). r .ship) (sym (t ∙ ap (λ (p : Paper). readingOf p (shipIn s)) u) ∙ e)
+
+pub read-is-good : (s : List ℕ) (x : Ship) → readingIn s ≡ record { verdict = accepted; ship = x } → (x .kind ≤ 1) × (x .n ≤ 8) × Good x
+unfolding shipIn
+read-is-good s x e =
+    let f = frame-passed s (passes-all s x e .0) in
+    let p = first-passed (shipLines (shipIn s)) (passes-all s x e .1) in
+    subst (λ (y : Ship). (y .kind ≤ 1) × (y .n ≤ 8) × Good y) (ship-is s x e) (f .type, f .few, good (shipIn s) (ap (λ (v : Paper). v .number) p))

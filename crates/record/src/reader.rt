@@ -1,10 +1,10 @@
 // Any bytes as a ship, or one numbered refusal.
 ghost use mathlib.Core.Path.{_≡_};
-ghost use Prim.Native.Nat.{ℕ, _+_, _*_, _≤_, _<_};
+ghost use Prim.Native.Nat.{_+_, _*_, _≤_, _<_};
 ghost use lib.ListN.{length};
 ghost use Rattle.ship.specs.Refusals.{paper, first, refused, numberOf, placeOf};
 ghost use Rattle.ship.specs.Vessel.{noShip};
-ghost use Rattle.record.specs.Layout.{houseIn, spareIn, houseAt, headIn, count, placesIn, shipIn};
+ghost use Rattle.record.specs.Layout.{houseIn, spareIn, headIn, count, placesIn, shipIn};
 ghost use Rattle.record.specs.Reading.{firstSpare, frameLines, readingIn, readingOf, shown};
 use crate::layout;
 use ship::House;

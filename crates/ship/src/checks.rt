@@ -1,10 +1,9 @@
 // Checks 7 to 11 on a ship, and 9 to 11 on a list of houses with L alone.
 ghost use mathlib.Core.Path.{_≡_};
-ghost use Prim.Native.Nat.{ℕ, _≤_, _<_, _+_};
-ghost use lib.ListN.{length, take, getD};
-ghost use Rattle.ship.specs.Vessel.{housesOf};
+ghost use Prim.Native.Nat.{_≤_, _<_, _+_};
+ghost use lib.ListN.{length, take};
 ghost use Rattle.ship.specs.Refusals.{paper, first};
-ghost use Rattle.ship.specs.Checks.{fieldsOf, fieldOut, outside, breaks, firstBreach, houseLines, shipLines, halfCertified};
+ghost use Rattle.ship.specs.Checks.{fieldsOf, fieldOut, breaks, firstBreach, houseLines, shipLines};
 use crate::House;
 use crate::Ship;
 use crate::refusal;

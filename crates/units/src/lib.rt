@@ -2,7 +2,7 @@
 // and a number crosses over only in a function of this file.
 ghost use mathlib.Core.Path.{_≡_};
 ghost use Prim.Native.Nat.{_+_, _*_, _≤_};
-ghost use Rattle.units.specs.Datum.{datum, stationOf};
+ghost use Rattle.units.specs.Datum.{stationOf};
 
 // A place along the ship, in millimetres forward of a datum that lies 2^20 mm abaft the after perpendicular.
 pub struct Station(pub u64);

@@ -1,7 +1,7 @@
 -- The value of a row of a table at a place between its entries, linear from each to the next. A row is any list of naturals that rises;
 -- a place is counted in entries, as the fraction t / d. The value is a sum over the segments, so that no law has a case at an entry.
 use mathlib.Core.List.{List, [], _∷_}
-use Prim.Native.Nat.{ℕ, _+_, _*_, _-_, _/_, _≤_, min}
+use Prim.Native.Nat.{ℕ, _+_, _*_, _-_, _≤_, min}
 use lib.ListN.{getD}
 use Rattle.whole.specs.Frac.{Frac}
 

@@ -3,7 +3,7 @@ use denote.Ref.{now}
 use Rattle.ship.specs.declared.refusal.Verdict.{Verdict}
 use Rattle.ship.specs.Refusals.{paper, accepted}
 use Rattle.record.specs.Reading.{Reading, readingIn}
-use Rattle.record.proofs.Theorems.{read-is-good}
+use Rattle.record.proofs.Framed.{read-is-good}
 use Rattle.marks.proofs.Demand.{bounded-in}
 use Rattle.marks.proofs.Sheet.{sheet-read, sheet-refused}
 use borrow.Author.Needs.{needs}

@@ -19,15 +19,15 @@ use Rattle.ship.specs.Refusals.{Paper, accepted, first}
 use Rattle.ship.specs.Checks.{fieldLines, houseLines, shipLines}
 use Rattle.ship.specs.Good.{Good}
 use Rattle.ship.proofs.First.{none-before, first-none}
-use Rattle.ship.proofs.Lines.{AllPass, all-pass, all-pass-split, first-passed}
+use Rattle.ship.proofs.Lines.{first-passed}
 use Rattle.ship.proofs.Accepted.{good}
 use Rattle.record.specs.Layout.{headWidths, headFields, headBytes, headIn, shipOf, placesIn, shipIn, recordBytes, housesBytes, housesIn, houseAt, turn14, kind, count, spare, spareIn}
-use Rattle.record.specs.Reading.{frameLines, houseSpare, firstSpare, Reading, readingOf, readingIn}
+use Rattle.record.specs.Reading.{houseSpare, firstSpare, readingIn}
 use Rattle.record.specs.Writing.{writingOf}
 use Rattle.record.proofs.Parts.{length-headBytes, length-housesBytes, length-housesIn, head-fit}
-use Rattle.record.proofs.Framed.{Framed, frame-passed, frame-passes, reading-framed}
+use Rattle.record.proofs.Framed.{passes-all, ship-is, Framed, frame-passed, frame-passes, reading-framed}
 use Rattle.record.proofs.Written.{head-fits, writing-accepted}
-use Rattle.record.proofs.House.{Held, AllHeld, houses-back, houses-there, house-at, spare-back}
+use Rattle.roundtrip.proofs.House.{Held, AllHeld, houses-back, houses-there, house-at, spare-back}
 
 turn-turn : (a : ℕ) → a < 16384 → turn14 (turn14 a) ≡ a
 turn-turn a h = omega arith
@@ -184,30 +184,17 @@ module _ (s : List ℕ) (b : Bytes s) (f : Framed s) where
   bytes-there = rw (head-there, places-there) (take-append-drop 27 s)
 
 module _ (s : List ℕ) (x : Ship) (e : readingIn s ≡ record { verdict = accepted; ship = x }) where
-  pub passes-all : AllPass (frameLines s) × AllPass (shipLines (shipIn s))
-  unfolding readingIn
-  passes-all =
-      all-pass-split (frameLines s) (shipLines (shipIn s))
-      (all-pass (frameLines s ++ shipLines (shipIn s)) (omega arith) (ap (λ (r : Reading). r .verdict .number) e))
-
-  pub ship-is : shipIn s ≡ x
-  unfolding pick
-  ship-is =
-      let t = reading-framed s (first-passed (frameLines s) (passes-all .0)) in
-      let u = first-passed (shipLines (shipIn s)) (passes-all .1) in
-      ap (λ (r : Reading). r .ship) (sym (t ∙ ap (λ (p : Paper). readingOf p (shipIn s)) u) ∙ e)
-
   pub write-back : Bytes s → recordBytes x ≡ s
-  write-back b = rw (← ship-is) (bytes-there s b (frame-passed s (passes-all .0)))
+  write-back b = rw (← (ship-is s x e)) (bytes-there s b (frame-passed s (passes-all s x e .0)))
 
   pub length-there : length s ≡ 27 + 8 * x .n
   unfolding shipIn
-  length-there = subst (λ (y : Ship). length s ≡ 27 + 8 * y .n) ship-is (frame-passed s (passes-all .0) .exact)
+  length-there = subst (λ (y : Ship). length s ≡ 27 + 8 * y .n) (ship-is s x e) (frame-passed s (passes-all s x e .0) .exact)
 
   -- and any buffer with room for it is written
   pub writes-back : (room : ℕ) → length s ≤ room → writingOf room x ≡ accepted
   unfolding shipIn
   writes-back room h =
-      let f = frame-passed s (passes-all .0) in
-      subst (λ (y : Ship). writingOf room y ≡ accepted) ship-is
-      (writing-accepted room (shipIn s) (f .type) (f .few) (first-passed (shipLines (shipIn s)) (passes-all .1)) (omega arith))
+      let f = frame-passed s (passes-all s x e .0) in
+      subst (λ (y : Ship). writingOf room y ≡ accepted) (ship-is s x e)
+      (writing-accepted room (shipIn s) (f .type) (f .few) (first-passed (shipLines (shipIn s)) (passes-all s x e .1)) (omega arith))

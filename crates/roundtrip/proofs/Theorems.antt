@@ -1,7 +1,7 @@
 -- The promises of document 01 about the record, each in one statement.
 use Prim.Native.Nat.{ℕ, _+_, _-_, _*_, _≤_}
 use mathlib.Core.List.{List, [], _∷_, _++_}
-use mathlib.Core.Path.{_≡_, refl, sym, ap, subst, _∙_}
+use mathlib.Core.Path.{_≡_, refl, sym, ap, _∙_}
 use lib.Dec.{ltb}
 use lib.ListN.{length, drop, replicate}
 use lib.Seq.{take-at, length-take-le}
@@ -15,15 +15,12 @@ use Rattle.ship.specs.Vessel.{noHouse, housesOf, clean, Same}
 use Rattle.ship.specs.Refusals.{Paper, accepted, refused, paper, first}
 use Rattle.ship.specs.Checks.{shipLines}
 use Rattle.ship.proofs.Lines.{all-pass, all-pass-split, first-passed}
-use Rattle.ship.specs.Good.{Good}
-use Rattle.ship.proofs.Accepted.{good}
 use Rattle.ship.proofs.OneToOne.{one-verdict}
 use Rattle.record.specs.declared.reader.Answer.{Answer}
-use Rattle.record.specs.Layout.{shipIn, recordBytes}
+use Rattle.record.specs.Layout.{recordBytes}
 use Rattle.record.specs.Reading.{Reading, readingIn, shown}
 use Rattle.record.specs.Writing.{writeLines, writingOf, written}
-use Rattle.record.proofs.RoundTrip.{Shaped, read-back, passes-all, ship-is, write-back, length-there, writes-back}
-use Rattle.record.proofs.Framed.{frame-passed}
+use Rattle.roundtrip.proofs.RoundTrip.{Shaped, read-back, write-back, length-there, writes-back}
 
 -- ---- reading a written record gives the ship back
 module _ (x : Ship) (shaped : Shaped x) (room : ℕ) (wrote : writingOf room x ≡ accepted) where
@@ -63,14 +60,6 @@ unfolding written pick
 write-what-was-read s x b e buf h =
     let r = write-back s x e b in
     rw (writes-back s x e (length buf) h, r, ← length-there s x e) refl
-
--- ---- what an accepted reading shows of its ship
-pub read-is-good : (s : List ℕ) (x : Ship) → readingIn s ≡ record { verdict = accepted; ship = x } → (x .kind ≤ 1) × (x .n ≤ 8) × Good x
-unfolding shipIn
-read-is-good s x e =
-    let f = frame-passed s (passes-all s x e .0) in
-    let p = first-passed (shipLines (shipIn s)) (passes-all s x e .1) in
-    subst (λ (y : Ship). (y .kind ≤ 1) × (y .n ≤ 8) × Good y) (ship-is s x e) (f .type, f .few, good (shipIn s) (ap (λ (v : Paper). v .number) p))
 
 -- ---- no second answer meets the reader's contract, nor the writer's
 pub one-answer : (s : List ℕ) (a b : Answer) → shown a ≡ readingIn s → shown b ≡ readingIn s → a ≡ b

@@ -1,10 +1,15 @@
-//! Sample data for run tests: records to read, and ships to write, with the lines to be printed.
+//! Sample data for run tests, with the lines to be printed: records to read, ships to write,
+//! marks to work and questions to answer.
 //!
-//! `samples records DIR` and `samples writes DIR` each make DIR/data/NAME for every case,
-//! DIR/args with the names in order, and DIR/stdout with one line for each.
+//! Each makes DIR/data/NAME for every case, DIR/args with the names in order, and DIR/stdout with
+//! one line for each. `samples slips` shows which cases of the marks a slip in a step would change.
 
+mod bytes;
+mod marks;
+mod questions;
 mod records;
 mod ships;
+mod slips;
 mod writes;
 
 use std::fs;
@@ -59,8 +64,14 @@ fn main() -> ExitCode {
     let (samples, directory) = match words[..] {
         ["records", directory] => (records::samples(), directory),
         ["writes", directory] => (writes::samples(), directory),
+        ["marks", directory] => (marks::cases().samples, directory),
+        ["questions", directory] => (questions::samples(), directory),
+        ["slips"] => {
+            println!("{}", marks::cases().slips());
+            return ExitCode::SUCCESS;
+        }
         _ => {
-            eprintln!("usage: samples records DIR | samples writes DIR");
+            eprintln!("usage: samples records | writes | marks | questions DIR, or samples slips");
             return ExitCode::from(2);
         }
     };
@@ -73,5 +84,17 @@ fn main() -> ExitCode {
             eprintln!("{directory}: {error}");
             ExitCode::FAILURE
         }
+    }
+}
+
+#[cfg(test)]
+mod tests {
+    /// Every generator stops at a case that is not what it says.
+    #[test]
+    fn cases_are_what_they_say() {
+        assert!(!super::records::samples().is_empty());
+        assert!(!super::writes::samples().is_empty());
+        assert!(!super::marks::cases().samples.is_empty());
+        assert!(!super::questions::samples().is_empty());
     }
 }

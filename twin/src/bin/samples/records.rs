@@ -1,37 +1,11 @@
 //! Records to read: the line is the refusal, or the ship and that it comes back.
 
+use crate::bytes::{over, packed, resized, COUNT, HOUSE_SPARE, KIND, SPARE, VERSION};
 use crate::ships::{extremes, house, k1, k2, three_houses, with};
 use crate::{Expected, Sample};
-use twin::bits::BitWriter;
 use twin::random::Random;
 use twin::record::{self, House, RawShip};
 use twin::report;
-
-/// First bit of the fields that are changed in place.
-const VERSION: usize = 0;
-const KIND: usize = 4;
-const COUNT: usize = 6;
-const SPARE: usize = 10;
-/// Spare bits of a house, from the start of its eight bytes.
-const HOUSE_SPARE: usize = 57;
-
-fn packed(raw: &RawShip) -> Vec<u8> {
-    let mut bytes = vec![0; record::record_bytes(raw.n as usize)];
-    record::pack(&mut bytes, raw);
-    bytes
-}
-
-/// The bytes with a field put over.
-fn over(mut bytes: Vec<u8>, at: usize, width: usize, number: u64) -> Vec<u8> {
-    BitWriter::starting_at(&mut bytes, at).put(width, number);
-    bytes
-}
-
-/// The bytes cut or filled up with zeros.
-fn resized(mut bytes: Vec<u8>, length: usize) -> Vec<u8> {
-    bytes.resize(length, 0);
-    bytes
-}
 
 struct Records(Vec<Sample>);
 

@@ -67,3 +67,46 @@ pub fn extremes() -> RawShip {
     };
     with(ship, &houses)
 }
+
+pub const KINDS: [(u64, char); 2] = [(0, 'a'), (1, 'b')];
+
+/// Not enclosed.
+pub fn open(house: House) -> House {
+    House { enclosed: false, ..house }
+}
+
+pub fn quarterdeck(aft: i64, fore: i64, height: u64) -> House {
+    House { quarterdeck: true, ..house(aft, fore, height) }
+}
+
+/// Regulation 38: standard ordinates to the nearest mm, times a percentage.
+pub fn sheer(length: u64, per_cent: i64) -> [i64; 6] {
+    let third = length as i64 + 30_000; // 3000 (L/3 + 10)
+    [250, 111, 28, 56, 222, 500].map(|tenths| (tenths * third * per_cent / 100 + 15_000) / 30_000)
+}
+
+/// No house, standard sheer, full and deep enough for regulations 30 and 31.
+pub fn plain(kind: u64, length: u64) -> RawShip {
+    let depth = length / 15 + 1_000;
+    RawShip {
+        kind,
+        length,
+        depth,
+        moulded: depth,
+        cb: 7_500,
+        cwf: 9_500,
+        sheer: sheer(length, 100),
+        ..RawShip::default()
+    }
+}
+
+/// A forecastle of 0.1 L, so high that the bow height does not decide.
+pub fn forecastle(length: u64) -> House {
+    let length = length as i64;
+    house(length * 9 / 10, length, 3_500)
+}
+
+/// `plain` with these houses and then a forecastle.
+pub fn decked(kind: u64, length: u64, houses: &[House]) -> RawShip {
+    with(plain(kind, length), &[houses, &[forecastle(length)]].concat())
+}

@@ -1,0 +1,30 @@
+//! Records as bytes, whole or damaged.
+
+use twin::bits::BitWriter;
+use twin::record::{self, RawShip};
+
+/// First bit of the fields that are changed in place.
+pub const VERSION: usize = 0;
+pub const KIND: usize = 4;
+pub const COUNT: usize = 6;
+pub const SPARE: usize = 10;
+/// Spare bits of a house, from the start of its eight bytes.
+pub const HOUSE_SPARE: usize = 57;
+
+pub fn packed(raw: &RawShip) -> Vec<u8> {
+    let mut bytes = vec![0; record::record_bytes(raw.n as usize)];
+    record::pack(&mut bytes, raw);
+    bytes
+}
+
+/// The bytes with a field put over.
+pub fn over(mut bytes: Vec<u8>, at: usize, width: usize, number: u64) -> Vec<u8> {
+    BitWriter::starting_at(&mut bytes, at).put(width, number);
+    bytes
+}
+
+/// The bytes cut or filled up with zeros.
+pub fn resized(mut bytes: Vec<u8>, length: usize) -> Vec<u8> {
+    bytes.resize(length, 0);
+    bytes
+}

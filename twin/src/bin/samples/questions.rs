@@ -1,0 +1,361 @@
+//! Questions for the shortest poop: height and wish, then the record. The line is the poop's length
+//! in dm, or one of refusals 1 to 11 and 14 to 16.
+
+use crate::bytes::{over, packed, resized, COUNT, KIND, SPARE, VERSION};
+use crate::ships::{decked, extremes, house, k1, k2, open, plain, quarterdeck, with, KINDS};
+use crate::Sample;
+use twin::marks;
+use twin::question::{shortest_poop, summer_with_poop};
+use twin::record::{self, House, RawShip, Ship, MAX_HOUSES};
+use twin::refusal::Refusal;
+
+/// What a case is there for.
+#[derive(Clone, Copy)]
+enum Expected {
+    /// This length.
+    Poop(i64),
+    /// Some length above 0.
+    Longer,
+    Refused(u8, usize),
+}
+
+use Expected::{Longer, Poop, Refused};
+
+struct Questions {
+    samples: Vec<Sample>,
+    /// Ship, height, wish and answer of each case that gets as far as the search.
+    searched: Vec<(Ship, u64, u64, Result<i64, Refusal>)>,
+}
+
+impl Questions {
+    fn bytes(&mut self, name: &str, expected: Expected, height: u64, wish: u64, record: Vec<u8>) {
+        let answer = shortest_poop(&record, height, wish);
+        let line = match answer {
+            Ok(k) => format!("poop {k}"),
+            Err(refusal) => refusal.to_string(),
+        };
+        let refusal = match expected {
+            Poop(k) => {
+                assert_eq!(answer, Ok(k), "{name}");
+                None
+            }
+            Longer => {
+                assert!(answer.is_ok_and(|k| k > 0), "{name}: {line}");
+                None
+            }
+            Refused(number, place) => Some((number, place)),
+        };
+        if let (Ok(ship), false) =
+            (record::read(&record), matches!(answer, Err(r) if r.number < 15))
+        {
+            self.searched.push((ship, height, wish, answer));
+        }
+        let mut data = height.to_be_bytes().to_vec();
+        data.extend(wish.to_be_bytes());
+        data.extend(record);
+        self.samples.push(Sample::new(name, data, line, refusal));
+    }
+
+    fn ship(&mut self, name: &str, expected: Expected, height: u64, wish: u64, raw: &RawShip) {
+        self.bytes(name, expected, height, wish, packed(raw));
+    }
+}
+
+pub fn samples() -> Vec<Sample> {
+    let mut all = Questions { samples: Vec::new(), searched: Vec::new() };
+    figures(&mut all);
+    whole_length(&mut all);
+    first_house(&mut all);
+    numbers_asked(&mut all);
+    no_room(&mut all);
+    unfit_at_zero(&mut all);
+    nothing_fits(&mut all);
+    order(&mut all);
+    for slip in SLIPS {
+        let told = all.searched.iter().filter(|(ship, height, wish, answer)| {
+            search_with(slip, ship, *height, *wish) != *answer
+        });
+        assert!(told.count() >= 2, "too few cases tell {slip:?}");
+    }
+    all.samples
+}
+
+/// The mark with a poop of k dm, nothing if it is unfit.
+fn mark(raw: &RawShip, height: u64, k: i64) -> Option<u64> {
+    let ship = raw.check().expect("a valid ship");
+    summer_with_poop(&ship, height, k).ok().map(|mark| mark as u64)
+}
+
+/// k3 to k6, and the ship whose mark rises with a longer poop.
+fn figures(all: &mut Questions) {
+    all.ship("k3-wish-1000", Poop(31), 1_950, 1_000, &k2());
+    all.ship("k3-wish-1001", Poop(30), 1_950, 1_001, &k2());
+    all.ship("k4-wish-1024", Poop(0), 1_950, 1_024, &k2());
+    all.ship("k4-wish-1023", Longer, 1_950, 1_023, &k2());
+    all.ship("k5-wish-187", Poop(800), 1_950, 187, &k2());
+    all.ship("k5-wish-186", Refused(16, 0), 1_950, 186, &k2());
+    all.ship("k6-wish-50", Refused(16, 0), 1_950, 50, &k2());
+    for (wish, expected) in [
+        (1_690, Poop(0)),
+        (1_689, Poop(600)),
+        (1_651, Poop(600)),
+        (1_650, Longer),
+        (1_620, Poop(719)),
+        (1_619, Poop(1_200)),
+        (593, Poop(1_200)),
+        (592, Refused(16, 0)),
+    ] {
+        all.ship(&format!("rising-wish-{wish}"), expected, 2_250, wish, &rising());
+    }
+}
+
+/// The mark falls to k = 719, rises to 1199 and drops at 1200.
+fn rising() -> RawShip {
+    RawShip {
+        kind: 1,
+        length: 120_000,
+        depth: 8_000,
+        moulded: 8_000,
+        cb: 6_800,
+        cwf: 9_500,
+        sheer: [1562, 693, 175, 350, 1387, 3125],
+        ..RawShip::default()
+    }
+}
+
+/// A poop of the whole length is a forecastle; it needs L in whole dm.
+fn whole_length(all: &mut Questions) {
+    for (length, expected) in
+        [(120_001, Refused(16, 0)), (120_099, Refused(16, 0)), (120_100, Poop(1_201))]
+    {
+        let raw = RawShip { length, ..rising() };
+        all.ship(&format!("whole-length-{length}"), expected, 2_250, 1_000, &raw);
+    }
+    let k1_drop = mark(&k1(), 2_000, 900).expect("marks with a poop of all the length");
+    all.ship("k1-whole-length", Poop(900), 2_000, k1_drop, &k1());
+    let shortest = plain(1, 24_000);
+    let least = mark(&shortest, 3_000, 240).expect("marks with a poop of all the length");
+    all.ship("shortest-ship-whole-length", Poop(240), 3_000, least, &shortest);
+    // A type A ship needs no forecastle; the last whole dm of 90099 mm is 900.
+    let tanker = RawShip { moulded: 3_000, ..plain(0, 90_099) };
+    let least = mark(&tanker, 2_000, 900).expect("marks with the longest poop");
+    all.ship("type-a-last-dm-of-90099", Poop(900), 2_000, least, &tanker);
+    all.ship("type-a-beyond-the-last-dm", Refused(16, 0), 2_000, least - 1, &tanker);
+    let longest = plain(0, 365_000);
+    let near = mark(&longest, 2_300, 3_111).expect("marks with a long poop");
+    all.ship("longest-type-a", Longer, 2_300, near, &longest);
+}
+
+/// The poop may touch the first house, not overlap it.
+fn first_house(all: &mut Questions) {
+    for (aft, last) in [(30_000, 300), (29_999, 299), (30_001, 300), (100, 1)] {
+        let houses = [house(aft, 31_000, 2_000), house(80_000, 90_000, 2_000)];
+        let raw = with(RawShip { kind: 0, ..k1() }, &houses);
+        let least = mark(&raw, 1_950, last).expect("marks with the longest poop");
+        all.ship(&format!("first-house-at-{aft}"), Poop(last), 1_950, least, &raw);
+        if aft == 30_000 {
+            all.ship("beyond-the-first-house", Refused(16, 0), 1_950, least - 1, &raw);
+        }
+    }
+    // An open house is in the way as well.
+    let houses = [open(house(30_000, 31_000, 2_000)), house(80_000, 90_000, 2_000)];
+    let raw = with(k1(), &houses);
+    let least = mark(&raw, 1_950, 300).expect("marks with the longest poop");
+    all.ship("open-first-house", Poop(300), 1_950, least, &raw);
+    all.ship("beyond-open-first-house", Refused(16, 0), 1_950, least - 1, &raw);
+    // A low poop is worth less, a high one no more.
+    all.ship("low-poop", Longer, 400, 1_000, &k2());
+    all.ship("height-8191", Poop(31), 8_191, 1_000, &k2());
+}
+
+/// Refusal 14 from both sides.
+fn numbers_asked(all: &mut Questions) {
+    all.ship("wish-49", Refused(14, 0), 1_950, 49, &k2());
+    all.ship("wish-60000", Poop(0), 1_950, 60_000, &k2());
+    all.ship("wish-60001", Refused(14, 0), 1_950, 60_001, &k2());
+    all.ship("wish-greatest", Refused(14, 0), 1_950, u64::MAX, &k2());
+    all.ship("height-0", Refused(14, 0), 0, 1_000, &k2());
+    all.ship("height-1", Refused(16, 0), 1, 1_000, &k2());
+    all.ship("height-8192", Refused(14, 0), 8_192, 1_000, &k2());
+    all.ship("height-greatest", Refused(14, 0), u64::MAX, 1_000, &k2());
+    all.ship("height-2-to-32-and-1950", Refused(14, 0), (1 << 32) + 1_950, 1_000, &k2());
+    // The floor of regulation 40 is met.
+    let low = RawShip { kind: 0, moulded: 2_000, cwf: 10_000, cb: 6_800, ..plain(0, 40_000) };
+    all.ship("wish-50-met", Longer, 3_000, 50, &RawShip { depth: 2_600, ..low });
+}
+
+/// Refusal 15 from both sides.
+fn no_room(all: &mut Questions) {
+    let fore = house(80_000, 90_000, 2_000);
+    for (name, aft, expected) in
+        [("minus-1", -1, Refused(15, 0)), ("0", 0, Refused(15, 0)), ("1", 1, Poop(0))]
+    {
+        let raw = with(k1(), &[house(aft, 9_000, 2_000), fore]);
+        all.ship(&format!("first-house-aft-end-{name}"), expected, 1_950, 60_000, &raw);
+    }
+    let poop = open(house(0, 9_000, 2_000));
+    all.ship("open-poop", Refused(15, 0), 1_950, 60_000, &with(k1(), &[poop, fore]));
+    let deck = quarterdeck(-500, 9_000, 1_200);
+    all.ship("quarterdeck", Refused(15, 0), 1_950, 60_000, &with(k1(), &[deck, fore]));
+    let row: Vec<House> = (1..=8).map(|i| house(10_000 * i, 10_000 * i + 9_000, 2_000)).collect();
+    let ship = |houses: &[House]| with(RawShip { length: 89_000, ..k1() }, houses);
+    all.ship("eight-houses-wish-met", Refused(15, 0), 1_950, 60_000, &ship(&row));
+    all.ship("seven-houses-wish-met", Poop(0), 1_950, 60_000, &ship(&row[1..]));
+    let seven = ship(&row[1..]);
+    let least = mark(&seven, 2_100, 150).expect("marks with a poop of 15 m");
+    all.ship("seven-houses-and-poop", Longer, 2_100, least, &seven);
+}
+
+/// Refusals 12 and 13 only make a length unfit.
+fn unfit_at_zero(all: &mut Questions) {
+    let shallow = RawShip { depth: 1_000, ..k2() };
+    all.ship("12-without-a-poop", Longer, 1_950, 60_000, &shallow);
+    // The draught of k2 is 4976 mm.
+    let heavy = RawShip { displacement: 5_000, immersion: 25, ..k2() };
+    all.ship("13-without-a-poop", Poop(31), 1_950, 60_000, &heavy);
+    all.ship("13-without-a-poop-wish-1024", Poop(31), 1_950, 1_024, &heavy);
+    let at = RawShip { displacement: 4_976, immersion: 25, ..k2() };
+    all.ship("13-at-its-border", Poop(0), 1_950, 1_024, &at);
+}
+
+fn nothing_fits(all: &mut Questions) {
+    let short = RawShip { sheer: [0; 6], ..plain(1, 24_050) };
+    all.ship("b-short-nothing-fits", Refused(16, 0), 2_000, 60, &short);
+    for (kind, letter) in KINDS {
+        let long = decked(kind, 365_000, &[house(100_000, 200_000, 2_300)]);
+        all.ship(&format!("{letter}-longest-nothing-fits"), Refused(16, 0), 2_300, 500, &long);
+    }
+    let sinking = RawShip { depth: 1_000, sheer: [0; 6], ..plain(1, 365_000) };
+    all.ship("12-at-every-length", Refused(16, 0), 2_300, 60_000, &sinking);
+    let heavy = RawShip { displacement: 1_048_575, immersion: 1, ..k2() };
+    all.ship("13-at-every-length", Refused(16, 0), 1_950, 60_000, &heavy);
+}
+
+/// Damaged records come first, whatever is asked.
+fn order(all: &mut Questions) {
+    let poop = house(0, 10_000, 2_000);
+    let overlapping = house(9_999, 20_000, 2_000);
+    let bad = house(30_000, 30_000, 2_000);
+    let deck = quarterdeck(1, 20_000, 1_200);
+    let record = packed(&k2());
+    for (number, place, bytes) in [
+        (1, 0, resized(record.clone(), 26)),
+        (2, 0, over(record.clone(), VERSION, 4, 2)),
+        (3, 0, over(record.clone(), KIND, 2, 2)),
+        (4, 0, over(resized(packed(&extremes()), 99), COUNT, 4, 9)),
+        (5, 0, resized(record.clone(), 36)),
+        (6, 0, over(record, SPARE, 1, 1)),
+        (7, 1, packed(&RawShip { length: 23_999, ..k2() })),
+        (8, 0, packed(&RawShip { immersion: 1, ..k2() })),
+        (9, 1, packed(&with(k1(), &[poop, bad]))),
+        (10, 0, packed(&with(k1(), &[deck]))),
+        (11, 1, packed(&with(k1(), &[poop, overlapping]))),
+    ] {
+        let expected = Refused(number, place);
+        all.bytes(&format!("{number}-before-14"), expected, 0, u64::MAX, bytes);
+    }
+    let overlap = with(k1(), &[poop, overlapping]);
+    all.ship("11-before-15", Refused(11, 1), 1_950, 60_000, &overlap);
+    all.ship("14-before-15-height", Refused(14, 0), 0, 1_000, &with(k1(), &[poop]));
+    all.ship("14-before-15-wish", Refused(14, 0), 1_950, 49, &extremes());
+    all.ship("15-before-16", Refused(15, 0), 1_950, 50, &with(k1(), &[poop]));
+}
+
+/// Plausible slips in the search.
+#[derive(Clone, Copy, Debug, PartialEq)]
+enum Slip {
+    /// Stops where the mark first rises.
+    StopsAtRise,
+    /// Halves the range as if the mark never rose.
+    Halves,
+    /// Begins at 1 dm.
+    SkipsZero,
+    /// Ends before 100k = L.
+    EndsBelowLength,
+    /// Goes on to the first k with 100k beyond L.
+    GoesBeyondLength,
+    /// The poop may not touch the first house.
+    NoTouching,
+    /// The mark must be below the wish.
+    BelowWish,
+    /// Gives refusal 12 or 13 of the ship without a poop.
+    RefusesShip,
+    /// Takes S where 12 or 13 would refuse.
+    TakesRefused,
+    /// The poop is a raised quarterdeck.
+    Quarterdeck,
+    /// Eight houses, or a house at the stern, do for k = 0.
+    ZeroNeedsNoRoom,
+}
+
+const SLIPS: [Slip; 11] = [
+    Slip::StopsAtRise,
+    Slip::Halves,
+    Slip::SkipsZero,
+    Slip::EndsBelowLength,
+    Slip::GoesBeyondLength,
+    Slip::NoTouching,
+    Slip::BelowWish,
+    Slip::RefusesShip,
+    Slip::TakesRefused,
+    Slip::Quarterdeck,
+    Slip::ZeroNeedsNoRoom,
+];
+
+/// Refusals 12, 13, 15, 16 and the search, with a slip.
+fn search_with(slip: Slip, ship: &Ship, height: u64, wish: u64) -> Result<i64, Refusal> {
+    let mark = |k: i64| {
+        let mut longer = ship.clone();
+        if k > 0 {
+            let quarterdeck = slip == Slip::Quarterdeck;
+            longer.houses.insert(0, House { quarterdeck, ..house(0, 100 * k, height) });
+        }
+        record::check_houses(longer.length, &longer.houses).ok()?;
+        let touches = k > 0 && ship.houses.first().is_some_and(|first| first.aft == 100 * k);
+        if slip == Slip::NoTouching && touches {
+            return None;
+        }
+        let refused = marks::marks(&longer).is_err() && slip != Slip::TakesRefused;
+        (!refused).then(|| marks::steps(&longer).summer)
+    };
+    let fits = |k: i64| match mark(k) {
+        Some(mark) if slip == Slip::BelowWish => mark < wish.into(),
+        Some(mark) => mark <= wish.into(),
+        None => false,
+    };
+    let nothing = Refusal::at(Refusal::NOTHING_FITS, 0);
+    let full = ship.houses.len() == MAX_HOUSES;
+    if full || ship.houses.first().is_some_and(|first| first.aft <= 0) {
+        return match slip == Slip::ZeroNeedsNoRoom && fits(0) {
+            true => Ok(0),
+            false => Err(Refusal::at(Refusal::NO_ROOM, 0)),
+        };
+    }
+    let last = match slip {
+        Slip::EndsBelowLength => (ship.length - 1) / 100,
+        Slip::GoesBeyondLength => (ship.length + 99) / 100,
+        _ => ship.length / 100,
+    };
+    match slip {
+        Slip::RefusesShip => marks::marks(ship).map(|_| ())?,
+        Slip::StopsAtRise => {
+            let rises = |&k: &i64| matches!((mark(k - 1), mark(k)), (Some(a), Some(b)) if b > a);
+            let rise = (1..=last).find(rises).unwrap_or(last + 1);
+            return (0..rise).find(|&k| fits(k)).ok_or(nothing);
+        }
+        Slip::Halves => {
+            let (mut low, mut high) = (0, last + 1);
+            while low < high {
+                let middle = (low + high) / 2;
+                match fits(middle) {
+                    true => high = middle,
+                    false => low = middle + 1,
+                }
+            }
+            return if low <= last { Ok(low) } else { Err(nothing) };
+        }
+        _ => {}
+    }
+    let first = i64::from(slip == Slip::SkipsZero);
+    (first..=last).find(|&k| fits(k)).ok_or(nothing)
+}

@@ -1,0 +1,621 @@
+//! Plausible slips in one step of the marks. A case is worth keeping if some slip changes its line.
+//!
+//! The working below is the steps once more, with at most one slip in it.
+
+use twin::marks::{standard_height, tabular, Marks};
+use twin::record::{House, Kind, Ship};
+use twin::refusal::Refusal;
+
+macro_rules! slips {
+    ($($name:ident $regulation:literal $text:literal,)*) => {
+        #[derive(Clone, Copy, Debug, PartialEq, Eq)]
+        pub enum Slip { $($name),* }
+
+        /// Every slip, the regulation it is in, and what it does.
+        pub const SLIPS: &[(Slip, u8, &str)] = &[$((Slip::$name, $regulation, $text)),*];
+    };
+}
+
+slips! {
+    HeightRounded 33 "standard height in whole mm",
+    HeightSteps 33 "standard height not linear between 75 and 125 m",
+    DeckAsHouse 33 "quarterdeck with the standard height of other houses",
+    DeckFlat 33 "quarterdeck with 1200 mm below 75 m",
+    OverhangCounts 34 "length beyond a perpendicular counts",
+    CoveredTwice 34 "house across amidships added to both halves",
+    CoveredDeckLimited 34 "quarterdeck limited to 0.6 L in S too",
+    OpenCounts 35 "house not enclosed counts",
+    LowWhole 35 "low house counts whole",
+    HighMore 35 "high house counts more than its length",
+    DeckUnlimited 35 "quarterdeck not limited to 0.6 L",
+    DeckLimitedLast 35 "quarterdeck limited to 0.6 L after the ratio of heights",
+    EffectiveUp 35 "effective length up",
+    EffectiveMm 35 "effective length in whole mm",
+    EffectiveOnce 35 "effective lengths rounded after the sum",
+    ForecastleAtFp 35 "no forecastle if the fore end is beyond L",
+    ForecastleLast 35 "last house is the forecastle wherever it ends",
+    OtherTable 28 "table of the other type",
+    RowBelow 28 "row below, not linear",
+    RowNearest 28 "nearest row, not linear",
+    ShortNever 29 "no addition",
+    ShortForA 29 "addition for type A",
+    ShortOver100 29 "taken off above 100 m",
+    ShortLongHouses 29 "taken off where E is above 0.35 L",
+    ShortCovered 29 "S in place of E",
+    ShortDown 29 "down",
+    FullnessNever 30 "not applied",
+    FullnessBelow 30 "applied below 0.68",
+    FullnessTable 30 "applied to the table alone",
+    FullnessDepth 30 "applied to the depth correction too",
+    FullnessUnlimited 30 "Cb above 1.0 taken as it is",
+    FullnessDown 30 "down",
+    DepthNever 31 "no addition",
+    DepthBelow 31 "taken off where D is below L/15",
+    DepthMoulded 31 "M in place of D",
+    DepthSlope 31 "L/0.48 from 120 m",
+    Depth250 31 "250 below 120 m",
+    DepthDown 31 "down",
+    DeductAlways 37 "type B without a forecastle gets it",
+    DeductForecastleA 37 "type A without a forecastle gets none",
+    DeductPlain 37 "0.07 L on the plain length",
+    DeductMmNearest 37 "0.07 L on the effective length to the nearest mm",
+    DeductMmDown 37 "0.07 L on the effective length down to mm",
+    DeductStrict 37 "forecastle of 0.07 L is too short",
+    DeductCovered 37 "S in place of E",
+    DeductSteps 37 "percentages not linear",
+    DeductKnot 37 "full amount linear from 24 to 122 m",
+    DeductBeyond 37 "full amount goes on rising above 122 m",
+    DeductFullUp 37 "full amount up",
+    DeductShareUp 37 "share up",
+    DeductUp 37 "product up",
+    OrdinatesRounded 38 "standard ordinates in whole mm",
+    MultipliersSwapped 38 "multipliers 3, 1, 1, 3",
+    AfterCounts 38 "after excess counts with forward deficiency",
+    ForwardWhole 38 "forward excess counts whole with after deficiency",
+    ForwardNone 38 "forward excess counts nothing with after deficiency",
+    ForwardSteps 38 "forward excess counts whole or not, by 75 per cent",
+    ForwardFromZero 38 "forward excess linear from 0 to 75 per cent",
+    MeanToZero 38 "mean toward zero",
+    HalvesDown 38 "each half down before the mean",
+    FactorPlain 38 "0.75 without S",
+    FactorEffective 38 "E in place of S",
+    AddedDown 38 "addition down",
+    DeductedUp 38 "deduction up",
+    LimitNever 38 "no limit of 1.25 L",
+    LimitFirst 38 "limit of 1.25 L before the cover",
+    CoverWhole 38 "cover not asked for",
+    CoverAny 38 "whole cover if any house stands amidships",
+    CoverDeficiency 38 "cover on a deficiency too",
+    CoverSumLimited 38 "reaches limited together to 0.2 L",
+    CoverJoined 38 "houses that touch join up",
+    CoverOne 38 "one house alone counts at L/2",
+    CoverStrict 38 "house that ends or begins at L/2 does not count",
+    CoverMmDown 38 "L/2 down to mm",
+    CoverNoDeck 38 "quarterdeck gives no cover",
+    CoverLow 38 "low house amidships counts in the ratio of heights",
+    BowNever 39 "not asked for",
+    BowDepth 39 "D in place of M",
+    BowWholeDepth 39 "M in place of 0.85 M",
+    BowCbUnlimited 39 "Cb above 1.0 taken as it is",
+    BowCbLeast 39 "Cb at least 0.68",
+    BowFactorDown 39 "b2 down",
+    BowHeightDown 39 "b1 down with b2 not below zero",
+    BowHeightUp 39 "b1 up with b2 below zero",
+    BowDown 39 "product down",
+    BowSheerAlways 39 "sheer at FP without the ordinate at L/6",
+    BowSheerNever 39 "no sheer at FP",
+    BowSheerAtZero 39 "ordinate at L/6 of zero is enough",
+    BowSheerPositive 39 "sheer at FP never below zero",
+    BowShortForecastle 39 "forecastle of any length counts",
+    BowEffective 39 "0.07 L on the effective length",
+    BowStrict 39 "forecastle of 0.07 L is too short",
+    BowHeightLimited 39 "forecastle counts up to the standard height",
+    BowHalfHeight 39 "forecastle below half the standard height does not count",
+    MarkDown 40 "S down to mm",
+    MarkNearest 40 "S to the nearest mm",
+    FloorNever 40 "S below 50",
+    TropicalFloorNever 40 "T below 50",
+    TropicalUp 40 "d/48 up for T",
+    WinterDown 40 "d/48 down for W",
+    NorthAtlanticStrict 40 "no addition at 100 m",
+    NorthAtlanticAlways 40 "addition above 100 m",
+    NorthAtlanticNever 40 "no addition",
+    FreshUp 40 "allowance up",
+    FreshPlain 40 "d/48 for a certified ship",
+    FreshLesser 40 "the lesser of both allowances",
+    FreshFloor 40 "F and TF at least 50",
+    TropicalFreshEarly 40 "TF from T before its floor",
+    DraughtMoulded 40 "draught from M",
+    TwelveAbove 12 "only above D",
+    TwelveNever 12 "never",
+    ThirteenAt 13 "at the draught",
+    ThirteenNever 13 "never",
+    ThirteenExact 13 "on the allowance before it is rounded",
+}
+
+fn down(number: i128, divisor: i128) -> i128 {
+    number.div_euclid(divisor)
+}
+
+fn up(number: i128, divisor: i128) -> i128 {
+    -down(-number, divisor)
+}
+
+/// The marks, with a slip or none.
+pub fn marks(ship: &Ship, slip: Option<Slip>) -> Result<Marks, Refusal> {
+    Working { ship, slip, l: ship.length.into() }.marks()
+}
+
+/// Whether the slip changes the ship's marks.
+pub fn tells(ship: &Ship, slip: Slip) -> bool {
+    marks(ship, Some(slip)) != marks(ship, None)
+}
+
+struct Working<'a> {
+    ship: &'a Ship,
+    slip: Option<Slip>,
+    /// L, mm.
+    l: i128,
+}
+
+impl Working<'_> {
+    fn has(&self, slip: Slip) -> bool {
+        self.slip == Some(slip)
+    }
+
+    /// Down, or up under the slip.
+    fn down(&self, number: i128, divisor: i128, slip: Slip) -> i128 {
+        down(number + if self.has(slip) { divisor - 1 } else { 0 }, divisor)
+    }
+
+    /// Up, or down under the slip.
+    fn up(&self, number: i128, divisor: i128, slip: Slip) -> i128 {
+        up(number - if self.has(slip) { divisor - 1 } else { 0 }, divisor)
+    }
+
+    fn marks(&self) -> Result<Marks, Refusal> {
+        let ship = self.ship;
+        let summer = self.summer();
+        let draught = i128::from(ship.depth) - summer;
+        let sinks = draught < 0 || draught == 0 && !self.has(Slip::TwelveAbove);
+        Refusal::unless(!sinks || self.has(Slip::TwelveNever), Refusal::MARK_AT_DECK)?;
+        let d = match self.has(Slip::DraughtMoulded) {
+            true => i128::from(ship.moulded) - summer,
+            false => draught,
+        };
+        let certified = (25 * i128::from(ship.displacement), i128::from(ship.immersion));
+        let plain = self.down(d, 48, Slip::FreshUp);
+        let allowance = match certified {
+            (0, _) => plain,
+            _ if self.has(Slip::FreshPlain) => plain,
+            (weight, immersion) => match self.down(weight, immersion, Slip::FreshUp) {
+                allowance if self.has(Slip::FreshLesser) => allowance.min(plain),
+                allowance => allowance,
+            },
+        };
+        let over = match self.slip {
+            Some(Slip::ThirteenAt) => allowance >= draught,
+            Some(Slip::ThirteenNever) => false,
+            Some(Slip::ThirteenExact) => certified.0 > certified.1 * draught && certified.1 > 0,
+            _ => allowance > draught,
+        };
+        Refusal::unless(!over, Refusal::FRESH_ALLOWANCE)?;
+        let low = summer - self.down(d, 48, Slip::TropicalUp);
+        let tropical = if self.has(Slip::TropicalFloorNever) { low } else { low.max(50) };
+        let winter = summer + self.up(d, 48, Slip::WinterDown);
+        let addition = match self.slip {
+            Some(Slip::NorthAtlanticAlways) => 50,
+            Some(Slip::NorthAtlanticNever) => 0,
+            Some(Slip::NorthAtlanticStrict) => 50 * i128::from(self.l < 100_000),
+            _ => 50 * i128::from(self.l <= 100_000),
+        };
+        let least = if self.has(Slip::FreshFloor) { 50 } else { i128::MIN };
+        let tropical_fresh = if self.has(Slip::TropicalFreshEarly) { low } else { tropical };
+        Ok(Marks {
+            summer,
+            tropical,
+            winter,
+            winter_north_atlantic: winter + addition,
+            fresh: (summer - allowance).max(least),
+            tropical_fresh: (tropical_fresh - allowance).max(least),
+        })
+    }
+
+    fn summer(&self) -> i128 {
+        let bow = if self.has(Slip::BowNever) { i128::MIN } else { self.bow() };
+        let freeboard = self.corrected().max(bow);
+        let mark = match self.slip {
+            Some(Slip::MarkDown) => down(freeboard, 1000),
+            Some(Slip::MarkNearest) => down(freeboard + 500, 1000),
+            _ => up(freeboard, 1000),
+        };
+        if self.has(Slip::FloorNever) {
+            mark
+        } else {
+            mark.max(50)
+        }
+    }
+
+    fn enclosed(&self) -> impl Iterator<Item = &House> {
+        self.ship.houses.iter().filter(|house| house.enclosed || self.has(Slip::OpenCounts))
+    }
+
+    fn forecastle(&self) -> Option<&House> {
+        match self.slip {
+            Some(Slip::ForecastleAtFp) => self.enclosed().find(|h| h.fore == self.ship.length),
+            Some(Slip::ForecastleLast) => self.enclosed().last(),
+            _ => self.enclosed().find(|h| h.fore >= self.ship.length),
+        }
+    }
+
+    /// 34: mm within the perpendiculars.
+    fn within(&self, house: &House) -> i128 {
+        let (aft, fore) = (i128::from(house.aft), i128::from(house.fore));
+        if self.has(Slip::OverhangCounts) {
+            fore - aft
+        } else {
+            fore.min(self.l) - aft.max(0)
+        }
+    }
+
+    /// S, mm.
+    fn covered(&self) -> i128 {
+        let part = |house: &House| {
+            let across = 2 * house.aft < self.ship.length && 2 * house.fore > self.ship.length;
+            match self.within(house) {
+                l if self.has(Slip::CoveredTwice) && across => 2 * l,
+                l if self.has(Slip::CoveredDeckLimited) && house.quarterdeck => {
+                    l.min(3 * self.l / 5)
+                }
+                l => l,
+            }
+        };
+        self.enclosed().map(part).sum()
+    }
+
+    /// 33: standard height as a fraction of mm.
+    fn standard(&self, quarterdeck: bool) -> (i128, i128) {
+        let quarterdeck = quarterdeck && !self.has(Slip::DeckAsHouse);
+        let (mm, parts) = standard_height(quarterdeck, self.l);
+        match self.slip {
+            Some(Slip::HeightRounded) => (mm / parts, 1),
+            Some(Slip::HeightSteps) if (75_000..125_000).contains(&self.l) => {
+                standard_height(quarterdeck, 75_000)
+            }
+            Some(Slip::DeckFlat) if quarterdeck && self.l < 75_000 => (1_200, 1),
+            _ => (mm, parts),
+        }
+    }
+
+    /// 35: effective length as a fraction of um.
+    fn effective_exact(&self, house: &House) -> (i128, i128) {
+        let whole = 1000 * self.within(house);
+        let limited = |um: i128, parts: i128| match house.quarterdeck {
+            true if !self.has(Slip::DeckUnlimited) => um.min(600 * self.l * parts),
+            _ => um,
+        };
+        let (standard, parts) = self.standard(house.quarterdeck);
+        let height = i128::from(house.height) * parts;
+        let low = height < standard && !self.has(Slip::LowWhole);
+        match low || self.has(Slip::HighMore) && height > standard {
+            false => (limited(whole, 1), 1),
+            true if self.has(Slip::DeckLimitedLast) => {
+                (limited(whole * height, standard), standard)
+            }
+            true => (limited(whole, 1) * height, standard),
+        }
+    }
+
+    fn effective(&self, house: &House) -> i128 {
+        let (um, parts) = self.effective_exact(house);
+        match self.slip {
+            Some(Slip::EffectiveMm) => 1000 * down(um, 1000 * parts),
+            _ => self.down(um, parts, Slip::EffectiveUp),
+        }
+    }
+
+    /// E, um.
+    fn effective_sum(&self) -> i128 {
+        if self.has(Slip::EffectiveOnce) {
+            let sum = |(a, b): (i128, i128), (c, d)| match b % d {
+                0 => (a + c * (b / d), b),
+                _ => (a * d + c * b, b * d),
+            };
+            let exact = self.enclosed().map(|house| self.effective_exact(house));
+            let (um, parts) = exact.fold((0, 1), sum);
+            down(um, parts)
+        } else {
+            self.enclosed().map(|house| self.effective(house)).sum()
+        }
+    }
+
+    fn corrected(&self) -> i128 {
+        let (covered, effective) = (self.covered(), self.effective_sum());
+        let depth = self.depth();
+        let table = self.table();
+        let short =
+            self.short_b(if self.has(Slip::ShortCovered) { 1000 * covered } else { effective });
+        let fullness = match self.slip {
+            Some(Slip::FullnessTable) => self.fullness(table) + short + depth,
+            Some(Slip::FullnessDepth) => self.fullness(table + short + depth),
+            _ => self.fullness(table + short) + depth,
+        };
+        let deducted =
+            self.deduction(if self.has(Slip::DeductCovered) { 1000 * covered } else { effective });
+        fullness - deducted
+            + self.sheer(match self.slip {
+                Some(Slip::FactorPlain) => 0,
+                Some(Slip::FactorEffective) => effective,
+                _ => 1000 * covered,
+            })
+    }
+
+    /// 28
+    fn table(&self) -> i128 {
+        let kind = match (self.ship.kind, self.has(Slip::OtherTable)) {
+            (Kind::A, false) | (Kind::B, true) => Kind::A,
+            _ => Kind::B,
+        };
+        match self.slip {
+            Some(Slip::RowBelow) => tabular(kind, self.l / 1000 * 1000),
+            Some(Slip::RowNearest) => tabular(kind, (self.l + 500) / 1000 * 1000),
+            _ => tabular(kind, self.l),
+        }
+    }
+
+    /// 29
+    fn short_b(&self, effective: i128) -> i128 {
+        let l = self.l;
+        let type_b = self.ship.kind == Kind::B || self.has(Slip::ShortForA);
+        let short = l < 100_000 || self.has(Slip::ShortOver100);
+        let few = effective < 350 * l || self.has(Slip::ShortLongHouses);
+        if type_b && short && few && !self.has(Slip::ShortNever) {
+            self.up(3 * (100_000 - l) * (350 * l - effective), 400 * l, Slip::ShortDown)
+        } else {
+            0
+        }
+    }
+
+    /// 30
+    fn fullness(&self, freeboard: i128) -> i128 {
+        let cb = i128::from(self.ship.cb);
+        let cb = if self.has(Slip::FullnessUnlimited) { cb } else { cb.min(10_000) };
+        let applies = cb > 6_800 || self.has(Slip::FullnessBelow);
+        if applies && !self.has(Slip::FullnessNever) {
+            self.up(freeboard * (cb + 6_800), 13_600, Slip::FullnessDown)
+        } else {
+            freeboard
+        }
+    }
+
+    /// 31
+    fn depth(&self) -> i128 {
+        let depth = if self.has(Slip::DepthMoulded) { self.ship.moulded } else { self.ship.depth };
+        let excess = 15 * i128::from(depth) - self.l;
+        let excess = match self.slip {
+            Some(Slip::DepthNever) => 0,
+            Some(Slip::DepthBelow) => excess,
+            _ => excess.max(0),
+        };
+        let sloping = match self.slip {
+            Some(Slip::DepthSlope) => true,
+            Some(Slip::Depth250) => false,
+            _ => self.l < 120_000,
+        };
+        if sloping {
+            self.up(excess * self.l, 7_200, Slip::DepthDown)
+        } else {
+            self.up(excess * 50, 3, Slip::DepthDown)
+        }
+    }
+
+    /// 37
+    fn deduction(&self, effective: i128) -> i128 {
+        let l = self.l;
+        let long_enough = self.forecastle().is_some_and(|house| {
+            let length = self.effective(house);
+            match self.slip {
+                Some(Slip::DeductPlain) => 1000 * self.within(house) >= 70 * l,
+                Some(Slip::DeductMmNearest) => down(length + 500, 1000) * 1000 >= 70 * l,
+                Some(Slip::DeductMmDown) => down(length, 1000) * 1000 >= 70 * l,
+                Some(Slip::DeductStrict) => length > 70 * l,
+                _ => length >= 70 * l,
+            }
+        });
+        let gets = match self.slip {
+            Some(Slip::DeductAlways) => true,
+            Some(Slip::DeductForecastleA) => long_enough,
+            _ => self.ship.kind == Kind::A || long_enough,
+        };
+        if !gets {
+            return 0;
+        }
+        let point = |(x0, y0): (i128, i128), (x1, y1): (i128, i128)| {
+            let rise = (y1 - y0) * 1000 * (l - x0);
+            1000 * y0 + self.down(rise, x1 - x0, Slip::DeductFullUp)
+        };
+        let ends = [(24_000, 350), (85_000, 860), (122_000, 1_070)];
+        let full = match self.slip {
+            Some(Slip::DeductKnot) if l < 122_000 => point(ends[0], ends[2]),
+            Some(Slip::DeductBeyond) if l >= 122_000 => point(ends[1], ends[2]),
+            _ if l < 85_000 => point(ends[0], ends[1]),
+            _ if l < 122_000 => point(ends[1], ends[2]),
+            _ => 1_070_000,
+        };
+        let percentages = [0, 70, 140, 210, 310, 410, 520, 630, 753, 877, 1000, 1000];
+        let tenth = 100 * l;
+        let below = (effective / tenth).min(10) as usize;
+        let beyond = match self.has(Slip::DeductSteps) {
+            true => 0,
+            false => effective - below as i128 * tenth,
+        };
+        let rise = 1000 * (percentages[below + 1] - percentages[below]) * beyond;
+        let share = 1000 * percentages[below] + self.down(rise, tenth, Slip::DeductShareUp);
+        self.down(full * share, 1_000_000, Slip::DeductUp)
+    }
+
+    /// 38(8) to (11): the mean excess, um.
+    fn mean(&self) -> i128 {
+        let sheer = self.ship.sheer.map(i128::from);
+        let third = self.l + 30_000; // 3000 u
+        let times: [i128; 6] = match self.has(Slip::MultipliersSwapped) {
+            true => [3, 1, 1, 1, 1, 3],
+            false => [1, 3, 3, 3, 3, 1],
+        };
+        // 1/30000 mm.
+        let standard = [250, 111, 28, 56, 222, 500].map(|tenths| match self.slip {
+            Some(Slip::OrdinatesRounded) => 30_000 * down(tenths * third + 15_000, 30_000),
+            _ => tenths * third,
+        });
+        let sum = |half: std::ops::Range<usize>, of: &[i128; 6]| -> i128 {
+            half.map(|i| times[i] * of[i]).sum()
+        };
+        let after_standard = sum(0..3, &standard);
+        let after_sum = 30_000 * sum(0..3, &sheer);
+        let mut after = after_sum - after_standard;
+        let forward = 30_000 * sum(3..6, &sheer) - sum(3..6, &standard);
+        let mut credit = after_standard;
+        if after > 0 && forward < 0 && !self.has(Slip::AfterCounts) {
+            after = 0;
+        } else if forward > 0 && after < 0 {
+            credit = match self.slip {
+                Some(Slip::ForwardWhole) => after_standard,
+                Some(Slip::ForwardNone) => 0,
+                Some(Slip::ForwardSteps) if 4 * after_sum < 3 * after_standard => 0,
+                Some(Slip::ForwardSteps) => after_standard,
+                Some(Slip::ForwardFromZero) => (4 * after_sum / 3).clamp(0, after_standard),
+                _ => (4 * after_sum - 2 * after_standard).clamp(0, after_standard),
+            };
+        }
+        let (after, forward) = (after * after_standard, forward * credit);
+        let parts = 30 * 8 * after_standard;
+        match self.slip {
+            Some(Slip::MeanToZero) => (after + forward) / (2 * parts),
+            Some(Slip::HalvesDown) => down(down(after, parts) + down(forward, parts), 2),
+            _ => down(after + forward, 2 * parts),
+        }
+    }
+
+    /// 38(16): tenths of mm, 2 L at most.
+    fn reach(&self) -> i128 {
+        let l = self.l;
+        let middle = if self.has(Slip::CoverMmDown) { 10 * (l / 2) } else { 5 * l };
+        let mut houses: Vec<House> = self.enclosed().copied().collect();
+        if self.has(Slip::CoverJoined) {
+            houses.dedup_by(|house, before| {
+                let touches = house.aft == before.fore;
+                if touches {
+                    before.fore = house.fore;
+                }
+                touches
+            });
+        }
+        let reaches = houses.iter().filter_map(|house| {
+            let before = 10 * i128::from(house.fore) - middle;
+            let abaft = middle - 10 * i128::from(house.aft);
+            let strict = self.has(Slip::CoverStrict) && (before == 0 || abaft == 0);
+            if before < 0 || abaft < 0 || strict {
+                return None;
+            }
+            if self.has(Slip::CoverNoDeck) && house.quarterdeck {
+                return None;
+            }
+            let reach = match self.has(Slip::CoverSumLimited) {
+                true => (before + abaft).min(2 * l),
+                false => before.min(l) + abaft.min(l),
+            };
+            let (standard, parts) = self.standard(house.quarterdeck);
+            let height = (i128::from(house.height) * parts).min(standard);
+            Some(if self.has(Slip::CoverLow) { reach * height / standard } else { reach })
+        });
+        let reach = match self.has(Slip::CoverOne) {
+            true => reaches.max().unwrap_or(0),
+            false => reaches.sum(),
+        };
+        match self.slip {
+            Some(Slip::CoverWhole) => 2 * l,
+            Some(Slip::CoverAny) if reach > 0 => 2 * l,
+            _ => reach,
+        }
+    }
+
+    /// 38(14) to (16): what is added, negative if deducted. S comes in um.
+    fn sheer(&self, covered: i128) -> i128 {
+        let (l, mean) = (self.l, self.mean());
+        let part = 3_000 * l - 2 * covered;
+        if mean < 0 {
+            let reach = if self.has(Slip::CoverDeficiency) { self.reach() } else { 2 * l };
+            return self.up(-mean * part * reach, 8_000 * l * l, Slip::AddedDown);
+        }
+        let limit = match self.has(Slip::LimitNever) {
+            true => i128::MAX,
+            false => down(5 * l, 4),
+        };
+        let reach = self.reach();
+        if self.has(Slip::LimitFirst) {
+            return -down(down(mean * part, 4_000 * l).min(limit) * reach, 2 * l);
+        }
+        -self.down(mean * part * reach, 8_000 * l * l, Slip::DeductedUp).min(limit)
+    }
+
+    /// 39
+    fn bow(&self) -> i128 {
+        let (ship, l) = (self.ship, self.l);
+        let moulded = i128::from(if self.has(Slip::BowDepth) { ship.depth } else { ship.moulded });
+        let cb = match i128::from(ship.cb) {
+            cb if self.has(Slip::BowCbUnlimited) => cb,
+            cb if self.has(Slip::BowCbLeast) => cb.clamp(6_800, 10_000),
+            cb => cb.min(10_000),
+        };
+        let coefficients = 20_800_000 + 609 * cb - 1_603 * i128::from(ship.cwf);
+        let parts = if self.has(Slip::BowWholeDepth) { 200 } else { 170 };
+        let b2 = self.up(
+            parts * moulded * coefficients - 25_800_000 * l,
+            10 * parts * moulded,
+            Slip::BowFactorDown,
+        );
+        let cubic = 303_750_000_000 * l - 937_500 * l * l + l * l * l;
+        let upward = match self.slip {
+            Some(Slip::BowHeightDown) => false,
+            Some(Slip::BowHeightUp) => true,
+            _ => b2 >= 0,
+        };
+        let b1 = if upward { up(cubic, 5_000_000_000) } else { down(cubic, 5_000_000_000) };
+        let height = self.up(b1 * b2, 1_000_000, Slip::BowDown);
+        height - 1000 * (self.bow_sheer() + self.bow_forecastle())
+    }
+
+    fn bow_sheer(&self) -> i128 {
+        let [.., sixth, perpendicular] = self.ship.sheer.map(i128::from);
+        let counts = match self.slip {
+            Some(Slip::BowSheerAlways) => true,
+            Some(Slip::BowSheerNever) => false,
+            Some(Slip::BowSheerAtZero) => sixth >= 0,
+            _ => sixth > 0,
+        };
+        match counts {
+            true if self.has(Slip::BowSheerPositive) => perpendicular.max(0),
+            true => perpendicular,
+            false => 0,
+        }
+    }
+
+    fn bow_forecastle(&self) -> i128 {
+        let Some(house) = self.forecastle() else { return 0 };
+        let (l, length) = (self.l, 1000 * self.within(house));
+        let long_enough = match self.slip {
+            Some(Slip::BowShortForecastle) => true,
+            Some(Slip::BowEffective) => self.effective(house) >= 70 * l,
+            Some(Slip::BowStrict) => length > 70 * l,
+            _ => length >= 70 * l,
+        };
+        let height = i128::from(house.height);
+        let (standard, parts) = self.standard(house.quarterdeck);
+        match self.slip {
+            _ if !long_enough => 0,
+            Some(Slip::BowHeightLimited) => height.min(standard / parts),
+            Some(Slip::BowHalfHeight) if 2 * height * parts < standard => 0,
+            _ => height,
+        }
+    }
+}

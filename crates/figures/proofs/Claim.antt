@@ -24,11 +24,13 @@ use Rattle.mark.specs.Summer as Summer
 use Rattle.mark.specs.Others as Others
 use Rattle.marks.specs.Steps as Steps
 use Rattle.marks.specs.Marks as Marks
-use Rattle.figures.specs.Figures.{house, ship90, k1, k2, figures, allAgree}
+use Rattle.poop.specs.Poop as Poop
+use Rattle.poop.specs.Question as Question
+use Rattle.figures.specs.Figures.{asked, house, ship90, k1, k2, figures, allAgree}
 
 -- what a figure computes through
 unfoldable Tools : Type 0
-unfolding Pick.pick Divide.ceilDiv Row.gain Row.height Row.heightIn Table28.table28A Table28.table28B Tabular.tabular Table37.ordinaryRow Refusals.first Checks.firstFrom
+unfolding Pick.pick Divide.ceilDiv Row.gain Row.height Row.heightIn Table28.table28A Table28.table28B Tabular.tabular Table37.ordinaryRow Refusals.first Checks.firstFrom Checks.breaks Checks.breachAt Checks.firstBreach
 Tools = Unit {0}
 
 unfoldable Houses : Type 0
@@ -43,6 +45,10 @@ unfoldable Marking : Type 0
 unfolding Summer.summerMark Others.tropical Others.winter Others.atlantic Others.allowance Others.sixMarks Steps.coveredS Steps.effectiveE Steps.forecastleHouse Steps.coverReach Steps.tableLine Steps.addedTo Steps.takenFrom Steps.bowOf Steps.summerOf Marks.marksOf Marks.sheetFor
 Marking = Unit {0}
 
+unfoldable Asking : Type 0
+unfolding Poop.poopHouse Poop.withFirst Poop.withPoop Poop.within Poop.marksWithin Poop.fitsAt Question.shortestFrom Question.shortestFor Question.replyFor
+Asking = Unit {0}
+
 pub claim : T (allAgree figures)
-unfolding house ship90 k1 k2 figures allAgree Tools Houses Corrections Marking
+unfolding house ship90 k1 k2 figures allAgree asked Tools Houses Corrections Marking Asking
 claim = tt

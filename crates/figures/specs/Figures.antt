@@ -19,8 +19,10 @@ use Rattle.houses.specs.Cover.{reach}
 use Rattle.corrections.specs.Depth31.{depthAddition}
 use Rattle.sheer.specs.Sheer as Sheer
 use Rattle.bow.specs.Bow.{higher, lower}
-use Rattle.marks.specs.Steps.{addedTo, takenFrom}
+use Rattle.marks.specs.Steps.{addedTo, takenFrom, summerOf}
 use Rattle.marks.specs.Marks.{sheetFor}
+use Rattle.poop.specs.Poop.{withPoop}
+use Rattle.poop.specs.Question.{Reply, replyFor}
 
 pub record Row : Type 0 where
   pub figure : ℕ
@@ -82,6 +84,14 @@ doubled = lifted (2000 ∷ 888 ∷ 224 ∷ 448 ∷ 1776 ∷ 4000 ∷ [])
 abbrev pub amidships : List House
 amidships = house 36000 54000 2000 ∷ []
 
+-- k3 to k6 ask of k2's ship, with a poop of 1950 mm
+unfoldable pub asked : ℕ → Reply
+asked wish = replyFor k2 1950 wish
+
+-- the length, and the number of the refusal, which is 0 where there is none
+abbrev pub askedRows : ℕ → ℕ → ℕ → ℕ → List Row
+askedRows k wish decimetres number = row k (asked wish .decimetres) decimetres ∷ row k (asked wish .verdict .number) number ∷ []
+
 -- ---- the table
 unfoldable pub figures : List Row
 figures =
@@ -90,6 +100,11 @@ figures =
     ∷ marksRows 1 k1 2030 1948 2113 2163 1948 1866
     ++ row 2 (takenFrom k2) 69095
     ∷ marksRows 2 k2 1024 921 1128 1178 921 818
+    ++ askedRows 3 1000 31 0
+    ++ row 3 (summerOf (withPoop 1950 30 k2)) 1001
+    ∷ askedRows 4 1024 0 0
+    ++ askedRows 5 187 800 0
+    ++ askedRows 6 50 0 16
     ++ row 7 (tabular table28A 61500) 593500
     ∷ row 7 (tabular table28B 61500) 594000
     ∷ row 8 (depthAddition 100000 6666) 0

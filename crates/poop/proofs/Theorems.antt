@@ -1,0 +1,110 @@
+-- Demand 3 of the call on any bytes, each part in one statement.
+use Prim.Native.Nat.{ℕ, _*_, _≤_, _<_}
+use mathlib.Core.Bool.{Bool, true, false, _&&_}
+use mathlib.Core.List.{List, [], _∷_, _++_}
+use mathlib.Core.Path.{_≡_, refl, sym, ap, subst}
+use lib.Dec.{eqb, leb}
+use borrow.Author.Tests.{eqb-false}
+use native.Mathlib.Omega.{arith}
+use Rattle.whole.specs.Pick.{pick}
+use Rattle.ship.specs.declared.House.{House}
+use Rattle.ship.specs.declared.Ship.{Ship}
+use Rattle.ship.specs.Vessel.{housesOf}
+use Rattle.ship.specs.Refusals.{Paper, Line, accepted, first}
+use Rattle.ship.specs.Checks.{fieldLines, houseLines, shipLines}
+use Rattle.ship.proofs.Lines.{AllPass, all-pass-split, first-skip}
+use Rattle.record.specs.Layout.{shipIn}
+use Rattle.record.specs.Reading.{frameLines, readingIn}
+use Rattle.record.proofs.Framed.{passes-all, ship-is}
+use Rattle.marks.specs.Steps.{summerOf}
+use Rattle.marks.specs.Marks.{markLines}
+use Rattle.poop.specs.Poop.{poopHouse, withFirst, withPoop, within, marksWithin, fitsAt}
+use Rattle.poop.specs.Question.{Reply, refusing, noLength, Shortest, fitting, none, askLines, replyOf, shortestFor, replyIn}
+use Rattle.poop.proofs.Search.{is-shortest, one-shortest}
+
+-- no line refuses by a number of 16 or more
+abbrev Early : List Line → Type 0
+Early [] = Unit {0}
+Early (t ∷ ts) = (t .1 .number < 16) × Early ts
+
+first-early : (ts : List Line) → Early ts → first ts .number < 16
+unfolding first pick
+first-early [] m = omega arith
+first-early (t ∷ ts) m = go (t .0) (first-early ts (m .1))
+  where
+    go : (b : Bool) → first ts .number < 16 → pick b (t .1) (first ts) .number < 16
+    go true h = m .0
+    go false h = h
+
+-- a reply of number 0 or 16 is the search's
+from-search : (p : Paper) (r : Reply) → p .number < 16 → (0 < replyOf p r .verdict .number → 16 ≤ replyOf p r .verdict .number) → replyOf p r ≡ r
+unfolding pick
+from-search p r early h = go (eqb (p .number) 0) refl h
+  where
+    go : (b : Bool) → eqb (p .number) 0 ≡ b → (0 < pick b r (refusing p) .verdict .number → 16 ≤ pick b r (refusing p) .verdict .number) → pick b r (refusing p) ≡ r
+    go true e h = refl
+    go false e h =
+        let n : ¬ (p .number ≡ 0) = eqb-false (p .number) 0 e in
+        absurd (omega (arith, h (omega arith)))
+
+-- the facts, taken out again
+module _ (fits : ℕ → Bool) (L : ℕ) where
+  of-given : (r : Reply) → Shortest fits L r → r .verdict .number ≡ 0
+      → (100 * r .decimetres ≤ L) × (fits (r .decimetres) ≡ true) × ((j : ℕ) → j < r .decimetres → fits j ≡ false)
+  of-given r (fitting k m e f) z = (m, e, f)
+  of-given r (none f) z = absurd (omega arith)
+
+  of-none : (r : Reply) → Shortest fits L r → r .verdict .number ≡ 16 → (j : ℕ) → 100 * j ≤ L → fits j ≡ false
+  of-none r (fitting k m e f) z = absurd (omega arith)
+  of-none r (none f) z = f
+
+module _ (s : List ℕ) (height wish : ℕ) where
+  abbrev x : Ship
+  x = shipIn s
+
+  abbrev lines : List Line
+  lines = frameLines s ++ shipLines x ++ askLines x height wish
+
+  same : (0 < replyIn s height wish .verdict .number → 16 ≤ replyIn s height wish .verdict .number) → replyIn s height wish ≡ shortestFor x height wish
+  unfolding replyIn
+  same h = from-search (first lines) (shortestFor x height wish) (first-early lines (omega arith)) h
+
+  found : (0 < replyIn s height wish .verdict .number → 16 ≤ replyIn s height wish .verdict .number) → Shortest (fitsAt x height wish) (x .length .0) (replyIn s height wish)
+  found h = subst (λ (r : Reply). Shortest (fitsAt x height wish) (x .length .0) r) (sym (same h)) (is-shortest x height wish)
+
+  -- the answer fits, and nothing shorter does
+  pub answer-fits : replyIn s height wish .verdict .number ≡ 0
+      → let k = replyIn s height wish .decimetres in
+      (100 * k ≤ x .length .0) × (fitsAt x height wish k ≡ true) × ((j : ℕ) → j < k → fitsAt x height wish j ≡ false)
+  answer-fits e = of-given (fitsAt x height wish) (x .length .0) (replyIn s height wish) (found (λ h. omega arith)) e
+
+  -- 16 says that nothing fits, and where nothing fits and no line before it refuses, it is given
+  pub sixteen : replyIn s height wish .verdict .number ≡ 16 → (j : ℕ) → 100 * j ≤ x .length .0 → fitsAt x height wish j ≡ false
+  sixteen e = of-none (fitsAt x height wish) (x .length .0) (replyIn s height wish) (found (λ h. omega arith)) e
+
+  pub sixteen-given : first lines ≡ accepted → ((j : ℕ) → 100 * j ≤ x .length .0 → fitsAt x height wish j ≡ false) → replyIn s height wish ≡ noLength
+  unfolding replyIn pick
+  sixteen-given e f =
+      rw e (one-shortest (fitsAt x height wish) (x .length .0) (shortestFor x height wish) noLength (is-shortest x height wish) (none f))
+
+  -- these facts leave one answer
+  pub one-length : first lines ≡ accepted → (r : Reply) → Shortest (fitsAt x height wish) (x .length .0) r → r ≡ replyIn s height wish
+  unfolding replyIn pick
+  one-length e r f =
+      rw e (one-shortest (fitsAt x height wish) (x .length .0) r (shortestFor x height wish) f (is-shortest x height wish))
+
+-- ---- a k fits by 9 to 13: 7 and 8 pass on the ship with the poop as on the ship without
+fields-either : (x : Ship) (h : House) (b : Bool) → AllPass (fieldLines x) → AllPass (fieldLines (pick b x (withFirst h x)))
+unfolding withFirst pick
+fields-either x h true p = p
+fields-either x h false p = p
+
+pub whole-calculation : (s : List ℕ) (x : Ship) (height wish k : ℕ) → readingIn s ≡ record { verdict = accepted; ship = x }
+    → let y = withPoop height k x in fitsAt x height wish k ≡ within (shipLines y ++ markLines y) (summerOf y) wish
+unfolding fitsAt marksWithin within withPoop
+whole-calculation s x height wish k e =
+    let y = withPoop height k x in
+    let hs = houseLines (y .length .0) (housesOf y) in
+    let a : AllPass (shipLines x) = subst (λ (z : Ship). AllPass (shipLines z)) (ship-is s x e) (passes-all s x e .1) in
+    let p = fields-either x (poopHouse height k) (eqb k 0) (all-pass-split (fieldLines x) (houseLines (x .length .0) (housesOf x)) a .0) in
+    ap (λ (v : Paper). eqb (v .number) 0 && leb (summerOf y) wish) (sym (first-skip (fieldLines y) (hs ++ markLines y) p))

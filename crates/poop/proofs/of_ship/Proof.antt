@@ -1,0 +1,31 @@
+-- Refusal 14, then 15, then what the search gives.
+use mathlib.Core.Bool.{_&&_}
+use mathlib.Core.Path.{_≡_, refl, sym, _∙_}
+use lib.Dec.{ltb, leb, eqb}
+use borrow.Author.Needs.{needs}
+use borrow.Author.Tests.{eqb-false}
+use native.Mathlib.Omega.{arith}
+use Rattle.units.specs.Datum.{stationOf}
+use Rattle.whole.specs.Pick.{pick}
+use Rattle.ship.specs.Vessel.{houseAt}
+use Rattle.ship.specs.Refusals.{first}
+use Rattle.ship.proofs.Lines.{or-false}
+use Rattle.poop.specs.Question.{replyFor}
+use Rattle.poop.proofs.of_ship.Statement.{statement}
+use Rattle.poop.proofs.of_ship.Tie as tie
+
+pub of-ship-spec : {M : Type 1} → statement M
+unfolding replyFor first pick
+of-ship-spec =
+    tie.close
+    (tie.spec
+    (λ c. rw (c .if1 .taken) refl)
+    (λ c κs. search needs)
+    (λ c. rw (c .before .before .if1 .left, sym (c .before .no-room .ensures) ∙ c .if2 .taken) refl)
+    (λ c κs. let s = c .before .before .before in
+    let x = s .args .x in
+    let e = or-false (ltb 0 (x .n) && leb (houseAt (x .houses) 0 .aft .0) (stationOf 0)) (eqb (x .n) 8) (sym (c .before .no-room .ensures) ∙ c .if2 .left) in
+    let m : ¬ (x .n ≡ 8) = eqb-false (x .n) 8 (e .1) in
+    (s .pre, omega (arith, s .pre .few)))
+    (λ c. let e = c .before in
+    rw (e .before .before .if1 .left, sym (e .before .no-room .ensures) ∙ e .if2 .left) (c .shortest .ensures)))

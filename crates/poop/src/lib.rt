@@ -1,0 +1,72 @@
+// The shortest-poop question: on a ship, or on any bytes as a ship record, with refusals 1 to 11, then 14 to 16.
+ghost use mathlib.Core.Path.{_≡_};
+ghost use Prim.Native.Nat.{_<_};
+ghost use Rattle.marks.specs.Steps.{Sound};
+ghost use Rattle.poop.specs.Question.{reply, noRoom, shortestFor, replyFor, replyIn};
+use record::reader;
+use ship::Ship;
+use ship::refusal::Refusal;
+use ship::refusal::Verdict;
+
+pub mod trial;
+
+// The shortest poop in decimetres, or what is refused.
+pub enum Answer {
+    Poop(u64),
+    Refused(Refusal),
+}
+
+// Refusal 15: the first house stands where a poop would, or all eight places are taken.
+fn no_room(x: Ship) -> bool
+    ensures { λ r. ⌜ r ≡ noRoom x ⌝ }
+{
+    let hs = x.houses;
+    let h = hs[0];
+    let aft = h.aft.0;
+    ((0 < x.n) & (aft <= 1048576)) | (x.n == 8)
+}
+
+// The first length that fits. A longer poop can raise the mark, so each is tried.
+fn shortest(x: Ship, height: u64, wish: u64) -> Answer
+    requires { ⌜ Sound x × (x .n < 8) ⌝ }
+    ensures { λ r. ⌜ reply r ≡ shortestFor x height wish ⌝ }
+{
+    let l = x.length.0;
+    let mut k: u64 = 0;
+    while 100 * k <= l {
+        if trial::fits(x, height, wish, k) {
+            return Answer::Poop(k);
+        }
+        k += 1;
+    }
+    Answer::Refused(Refusal::NoLength)
+}
+
+// The question on a ship that the reader accepts: refusals 14 to 16.
+pub fn of_ship(x: Ship, height: u64, wish: u64) -> Answer
+    requires { ⌜ Sound x ⌝ }
+    ensures { λ r. ⌜ reply r ≡ replyFor x height wish ⌝ }
+{
+    if (height < 1) | (8191 < height) | (wish < 50) | (60000 < wish) {
+        return Answer::Refused(Refusal::Asked);
+    }
+    if no_room(x) {
+        return Answer::Refused(Refusal::NoRoom);
+    }
+    shortest(x, height, wish)
+}
+
+// The question on any bytes.
+pub fn of_record(s: &[u8], height: u64, wish: u64) -> Answer
+    ensures { λ r. ⌜ reply r ≡ replyIn (now (s .entry)) height wish ⌝ }
+{
+    let a = reader::read(s);
+    let v = a.verdict;
+    match v {
+        Verdict::Accepted => {
+            let x = a.ship;
+            of_ship(x, height, wish)
+        }
+        Verdict::Refused(r) => Answer::Refused(r),
+    }
+}

@@ -11,11 +11,15 @@ ghost use Rattle.houses.specs.Forecastle.{forecastleOf};
 ghost use Rattle.houses.specs.Cover.{reachOf, reach};
 ghost use Rattle.houses.specs.Amount.{amountOf};
 use ship::House;
+use units::AP;
 use units::Effective;
 use units::Span;
 use whole::greater;
 use whole::less;
 use whole::lesser;
+
+// The after perpendicular's station in tenths of a mm.
+const TENTHS_TO_AP: u64 = 10 * AP;
 
 // A standard height, size / per mm: unrounded.
 pub struct Standard {
@@ -37,8 +41,8 @@ pub fn part(l: Span, h: House) -> Span
     ensures { λ r. ⌜ r .0 ≤ l .0 ⌝ }
 {
     let mm = l.0;
-    let aft = greater(h.aft.0, 1048576);
-    let fore = lesser(h.fore.0, 1048576 + mm);
+    let aft = greater(h.aft.0, AP);
+    let fore = lesser(h.fore.0, AP + mm);
     let length = less(fore, aft);
     if h.enclosed {
         return Span(length);
@@ -134,7 +138,7 @@ fn reach_of(l: Span, h: House) -> u64
     let tenth = l.0;
     let aft = 10 * h.aft.0;
     let fore = 10 * h.fore.0;
-    let amidships = 10485760 + 5 * tenth;
+    let amidships = TENTHS_TO_AP + 5 * tenth;
     if h.enclosed & (aft <= amidships) & (amidships <= fore) {
         return lesser(less(fore, amidships), tenth) + lesser(less(amidships, aft), tenth);
     }
@@ -212,7 +216,7 @@ pub fn forecastle(l: Span, houses: [House; 8], n: usize) -> House
     let mut k = 0;
     while k < n {
         let house = houses[k];
-        if house.enclosed & (1048576 + mm <= house.fore.0) {
+        if house.enclosed & (AP + mm <= house.fore.0) {
             return house;
         }
         k += 1;

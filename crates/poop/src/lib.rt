@@ -7,6 +7,7 @@ use record::reader;
 use ship::Ship;
 use ship::refusal::Refusal;
 use ship::refusal::Verdict;
+use units::AP;
 
 pub mod trial;
 
@@ -23,7 +24,7 @@ fn no_room(x: Ship) -> bool
     let hs = x.houses;
     let h = hs[0];
     let aft = h.aft.0;
-    ((0 < x.n) & (aft <= 1048576)) | (x.n == 8)
+    ((0 < x.n) & (aft <= AP)) | (x.n == 8)
 }
 
 // The first length that fits. A longer poop can raise the mark, so each is tried.

@@ -9,6 +9,7 @@ use crate::Ship;
 use crate::refusal;
 use crate::refusal::Refusal;
 use crate::refusal::Verdict;
+use units::AP;
 use units::Span;
 
 // The ranges of fields 1 to 13, or of their bits; the sheer is lifted by 8192 mm.
@@ -66,6 +67,9 @@ fn field_out(fields: [u64; 13]) -> usize
     k
 }
 
+// 20 m abaft the after perpendicular.
+const AFT_MOST: u64 = AP - 20000;
+
 // What checks 9, 10 and 11 ask of a house.
 pub enum Rule {
     EndsAndHeight,
@@ -84,16 +88,14 @@ fn house_breaks(rule: Rule, l: u64, before: u64, h: House) -> bool
     match rule {
         Rule::EndsAndHeight => {
             (fore <= aft)
-                | (fore <= 1048576)
-                | (1048576 + l <= aft)
-                | (aft < 1028576)
-                | (1048576 + (l + 20000) < fore)
+                | (fore <= AP)
+                | (AP + l <= aft)
+                | (aft < AFT_MOST)
+                | (AP + (l + 20000) < fore)
                 | (height < 1)
                 | (8191 < height)
         }
-        Rule::RaisedQuarterdeck => {
-            h.quarterdeck & (!h.enclosed | (1048576 < aft) | (1048576 + l <= fore))
-        }
+        Rule::RaisedQuarterdeck => { h.quarterdeck & (!h.enclosed | (AP < aft) | (AP + l <= fore)) }
         Rule::NoOverlap => aft < before,
     }
 }

@@ -1,6 +1,7 @@
 // The ship of record version 1: its fields, and up to eight houses kept by value.
 ghost use mathlib.Core.Path.{_≡_};
 ghost use Rattle.ship.specs.Vessel.{noHouse, noShip};
+use units::AP;
 use units::Span;
 use units::Station;
 
@@ -43,8 +44,8 @@ pub fn no_house() -> House
     House {
         enclosed: false,
         quarterdeck: false,
-        aft: Station(1048576),
-        fore: Station(1048576),
+        aft: Station(AP),
+        fore: Station(AP),
         height: Span(0),
     }
 }

@@ -6,6 +6,7 @@ use ship::House;
 use ship::Ship;
 use ship::refusal;
 use ship::refusal::Refusal;
+use units::AP;
 
 pub fn text(t: &[u8]) {
     io::write_all(STDOUT_FILENO, t);
@@ -62,8 +63,8 @@ fn house(h: House) {
         text(b"0");
     }
     next_flag(h.quarterdeck);
-    next_from(1048576, h.aft.0);
-    next_from(1048576, h.fore.0);
+    next_from(AP, h.aft.0);
+    next_from(AP, h.fore.0);
     next(h.height.0);
     text(b"]");
 }

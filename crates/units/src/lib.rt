@@ -7,6 +7,9 @@ ghost use Rattle.units.specs.Datum.{stationOf};
 // A place along the ship, in millimetres forward of a datum that lies 2^20 mm abaft the after perpendicular.
 pub struct Station(pub u64);
 
+// The after perpendicular's.
+pub const AP: u64 = 1048576;
+
 // A length or a height, in millimetres.
 pub struct Span(pub u64);
 
@@ -22,7 +25,7 @@ pub fn forward_of_ap(l: Span) -> Station
     ensures { λ r. ⌜ r .0 ≡ stationOf (l .0) ⌝ }
 {
     let mm = l.0;
-    Station(1048576 + mm)
+    Station(AP + mm)
 }
 
 // The freeboard of `mm` millimetres.

@@ -95,7 +95,7 @@ fn house_breaks(rule: Rule, l: u64, before: u64, h: House) -> bool
                 | (height < 1)
                 | (8191 < height)
         }
-        Rule::RaisedQuarterdeck => { h.quarterdeck & (!h.enclosed | (AP < aft) | (AP + l <= fore)) }
+        Rule::RaisedQuarterdeck => h.quarterdeck & (!h.enclosed | (AP < aft) | (AP + l <= fore)),
         Rule::NoOverlap => aft < before,
     }
 }

@@ -3,3 +3,4 @@ pub mod Divide
 pub mod Frac
 pub mod Round
 pub mod Row
+pub mod Sign

@@ -3,6 +3,7 @@ ghost use mathlib.Core.Path.{_≡_};
 ghost use Prim.Native.Nat.{_+_, _*_, _-_, _/_, _^_, _≤_, _<_, min, max};
 ghost use lib.IntN.{natAbs, pos, _-ℤ_};
 ghost use Rattle.whole.specs.Divide.{ceilDiv};
+ghost use Rattle.whole.specs.Sign.{negative};
 
 // a * b / d, rounded up.
 pub fn mul_div_up(a: u64, b: u64, d: u64) -> u64
@@ -57,9 +58,25 @@ pub fn minus(a: u64, b: u64) -> i64
     (a as i64) - (b as i64)
 }
 
+// n with a sign.
+pub fn with_sign(n: u64) -> i64
+    requires { ⌜ n < 2 ^ 32 ⌝ }
+    ensures { λ r. ⌜ r ≡ pos n ⌝ }
+{
+    n as i64
+}
+
+// Whether a number is below zero.
+pub fn below_zero(n: i64) -> bool
+    ensures { λ r. ⌜ r ≡ negative n ⌝ }
+{
+    n < 0
+}
+
 // The size of a number, without its sign.
 pub fn size(n: i64) -> u64
     ensures { λ r. ⌜ r ≡ natAbs n ⌝ }
+    ensures { λ r. ⌜ r ≤ 2 ^ 63 ⌝ }
 {
     if n < 0 {
         ((-1 - n) as u64) + 1

@@ -2,7 +2,7 @@
 use mathlib.Core.Path.{_≡_, refl, sym, ap, _∙_, subst}
 use mathlib.Core.Bool.{Bool, true, false, cond, true≢false}
 use borrow.Author.Tests.{ltb-true, le-ltb}
-use Prim.Native.Nat.{ℕ, zero, suc, _+_, _-_, _<_, _^_}
+use Prim.Native.Nat.{ℕ, zero, suc, _+_, _-_, _<_, _≤_, _^_}
 use native.Mathlib.Nat.{lt-of-lt-of-le}
 use native.Mathlib.Numerals.{add-one}
 use native.Mathlib.Omega.{arith}
@@ -57,13 +57,21 @@ cast-result-2 c = subst (λ (z : ℤ). T (nonNeg z) × Fits w64 (natAbs z)) (sym
     go (pos a) f t = (tt, record { fits = lt-of-lt-of-le (f .sfits) (lit≤ tt) })
     go (negsuc a) f t = absurd (true≢false t)
 
+-- no `i64` is further from zero than its least
+most : (n : ℤ) → SFits w64 n → natAbs n ≤ 2 ^ 63
+most (pos a) f = omega (arith, f .sfits)
+most (negsuc a) f = omega (arith, f .sfits)
+
 returns : tie.Need-returns
 returns c =
     let b = below (c .before .args .n) (c .before .fits .n) (c .if1 .taken) in
-    ap (λ (z : ℤ). natAbs z + 1) (b .read) ∙ add-one (b .k) ∙ sym (ap natAbs (b .is))
+    let e = ap (λ (z : ℤ). natAbs z + 1) (b .read) ∙ add-one (b .k) ∙ sym (ap natAbs (b .is)) in
+    (e, rw e (most (c .before .args .n) (c .before .fits .n)))
 
 returns-2 : tie.Need-returns-2
-returns-2 c = ap natAbs (toZ-ofZ w64 (c .before .args .n) (c .before .fits .n))
+returns-2 c =
+    let e = ap natAbs (toZ-ofZ w64 (c .before .args .n) (c .before .fits .n)) in
+    (e, rw e (most (c .before .args .n) (c .before .fits .n)))
 
 pub size-spec : {M : Type 1} → statement M
 size-spec = tie.close (tie.spec sub-result cast-result add-result cast-result-2 returns returns-2)

@@ -1,0 +1,4 @@
+pub mod Filled
+pub mod Room
+pub mod Kept
+pub mod Theorems

@@ -1,0 +1,42 @@
+use Prim.Native.Nat.{_-_, _≤_}
+use mathlib.Core.Path.{_≡_, ap, _∙_}
+use lib.IntN.{pos}
+use lib.ListN.{getD}
+use mir.Syntax.{w64}
+use mir.ValLaws.{toZ-ofZ}
+use native.Mathlib.Omega.{arith}
+use borrow.Author.Needs.{needs}
+use Rattle.face.specs.Flat.{ordinateAt}
+use Rattle.face.proofs.Filled.{filled, filled-none, filled-more, filled-all}
+use Rattle.face.proofs.flat.to_sheer.Statement.{statement}
+use Rattle.face.proofs.flat.to_sheer.Tie as tie
+
+abbrev Inv-loop : tie.InvT-loop
+Inv-loop mm s₀ k₀ s k = (k ≤ 6) × (s ≡ filled ordinateAt 0 k mm)
+
+abbrev μ-loop : tie.MeasureT-loop
+μ-loop mm s₀ k₀ s k = 6 - k
+
+pub to-sheer-spec : {M : Type 1} → statement M
+to-sheer-spec =
+    tie.close
+    (tie.spec
+    Inv-loop
+    μ-loop
+    (λ c. (search needs, filled-none ordinateAt _ (c .args .t1) 6 (search needs)))
+    (λ c. search needs)
+    (λ c. search needs)
+    (λ c κs. search needs)
+    (λ c. search needs)
+    (λ c. search needs)
+    (λ c. search needs)
+    (λ c. search needs)
+    (λ c.
+    let l = c .before .before .before in
+    let mm = l .before .args .t1 in
+    let k = l .loop .k in
+    let e : c .ordinate .result ≡ ordinateAt (getD mm k (pos 0)) = c .ordinate .ensures ∙ ap ordinateAt (toZ-ofZ w64 (getD mm k (pos 0)) (record { sfits = c .before .ordinate-arg .given })) in
+    (omega arith, rw (e, l .loop .inv .1) (filled-more ordinateAt 0 mm k (pos 0) (search needs))))
+    (λ c.
+    let l = c .before in
+    l .loop .inv .1 ∙ filled-all ordinateAt _ (l .before .args .t1) (l .loop .k) (search needs)))

@@ -1,0 +1,88 @@
+"""Prints the marks of a ship record, then what the other three calls say of it."""
+import sys
+from ctypes import CDLL, POINTER, Structure, c_char, c_char_p, c_size_t, create_string_buffer
+from ctypes import c_int64 as i64, c_uint64 as u64
+from pathlib import Path
+
+LONGEST = 91  # bytes of a record
+
+
+class House(Structure):
+    _fields_ = [("enclosed", u64), ("quarterdeck", u64), ("aft", i64), ("fore", i64), ("height", u64)]
+
+
+class Ship(Structure):
+    _fields_ = [
+        *((name, u64) for name in ("kind", "n", "length", "depth", "moulded", "block", "waterplane")),
+        ("sheer", i64 * 6),
+        ("displacement", u64),
+        ("immersion", u64),
+        ("houses", House * 8),
+    ]
+
+
+class Answer(Structure):
+    """What every answer begins with. Refusal 0 is none; beside another, all else is 0."""
+    _fields_ = [("refusal", u64), ("place", u64)]
+
+    def __str__(self):
+        return f"refused {self.refusal} {self.place}"
+
+
+class MarksAnswer(Answer):
+    _fields_ = [(name, i64) for name in ("s", "t", "w", "wna", "f", "tf")]
+
+
+class PoopAnswer(Answer):
+    _fields_ = [("decimetres", u64)]
+
+
+class ReadAnswer(Answer):
+    _fields_ = [("ship", Ship)]
+
+
+class WriteAnswer(Answer):
+    _fields_ = [("bytes", u64)]
+
+
+library = CDLL(str(Path(__file__).resolve().parent.parent / "target/lib/libloadline.so"))
+# ctypes takes what is not declared for a C int, so each call is declared.
+for call, result, arguments in (
+    (library.loadline_marks, MarksAnswer, [c_char_p, c_size_t]),
+    (library.loadline_shortest_poop, PoopAnswer, [c_char_p, c_size_t, u64, u64]),
+    (library.loadline_read, ReadAnswer, [c_char_p, c_size_t]),
+    (library.loadline_write, WriteAnswer, [POINTER(c_char), c_size_t, Ship]),
+):
+    call.restype, call.argtypes = result, arguments
+
+
+def show(record):
+    m = library.loadline_marks(record, len(record))
+    print(m if m.refusal else f"S {m.s} T {m.t} W {m.w} WNA {m.wna} F {m.f} TF {m.tf}")
+
+    read = library.loadline_read(record, len(record))
+    if read.refusal:
+        print("no ship:", read)
+        return
+    ship = read.ship
+    houses = "".join(f" {house.aft}..{house.fore}" for house in ship.houses[: ship.n])
+    print(f"L {ship.length} type {'AB'[ship.kind]} houses {ship.n}{houses}")
+
+    poop = library.loadline_shortest_poop(record, len(record), 1950, 1000)
+    print("poop of 1950 mm for S 1000:", poop if poop.refusal else f"{poop.decimetres} dm")
+
+    copy = create_string_buffer(LONGEST)
+    written = library.loadline_write(copy, len(copy), ship)
+    same = not written.refusal and copy.raw[: written.bytes] == record
+    print("written back:", f"the same {written.bytes} bytes" if same else "not the same")
+
+
+if __name__ == "__main__":
+    if len(sys.argv) != 2:
+        sys.exit("usage: marks.py RECORD")
+    try:
+        with open(sys.argv[1], "rb") as file:
+            data = file.read(LONGEST + 1)  # one more: a longer file is refused, not cut to a record
+    except OSError as why:
+        sys.exit(f"marks: {sys.argv[1]}: {why.strerror}")
+    show(data)

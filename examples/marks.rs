@@ -1,0 +1,88 @@
+//! Prints the marks of a ship record, then what the other three calls say of it.
+//! Build: rustc --edition 2021 -L target/lib examples/marks.rs
+use std::{env, fs::File, io::Read, process::ExitCode};
+
+/// The calls of include/loadline.h. Beside a refusal every number is 0, so that `Err` loses nothing.
+#[rustfmt::skip] // a struct of C stays on few lines
+#[allow(dead_code)] // this program does not look at every field
+mod loadline {
+    #[repr(C)] #[derive(Clone, Copy)]
+    pub struct House { pub enclosed: u64, pub quarterdeck: u64, pub aft: i64, pub fore: i64, pub height: u64 }
+    #[repr(C)] #[derive(Clone, Copy)]
+    pub struct Ship {
+        pub kind: u64, pub n: u64, pub length: u64, pub depth: u64, pub moulded: u64, pub block: u64, pub waterplane: u64,
+        pub sheer: [i64; 6], pub displacement: u64, pub immersion: u64, pub houses: [House; 8],
+    }
+    #[repr(C)] pub struct Marks { pub s: i64, pub t: i64, pub w: i64, pub wna: i64, pub f: i64, pub tf: i64 }
+    #[repr(C)] pub struct Refusal { pub number: u64, pub place: u64 }
+    /// What each call gives: the refusal, its number 0 for none, then the rest.
+    #[repr(C)] struct Answer<T> { refusal: Refusal, rest: T }
+    impl<T> Answer<T> {
+        fn result(self) -> Result<T, Refusal> { if self.refusal.number == 0 { Ok(self.rest) } else { Err(self.refusal) } }
+    }
+
+    #[link(name = "loadline", kind = "static")]
+    extern "C" {
+        fn loadline_marks(record: *const u8, length: usize) -> Answer<Marks>;
+        fn loadline_shortest_poop(record: *const u8, length: usize, height: u64, wish: u64) -> Answer<u64>;
+        fn loadline_read(record: *const u8, length: usize) -> Answer<Ship>;
+        fn loadline_write(buffer: *mut u8, length: usize, ship: Ship) -> Answer<u64>;
+    }
+
+    // SAFETY, of each: pointer and length are those of a slice lent for the call; the calls keep neither, and every byte
+    // and number is permissible.
+    pub fn marks(record: &[u8]) -> Result<Marks, Refusal> {
+        unsafe { loadline_marks(record.as_ptr(), record.len()) }.result()
+    }
+    /// The shortest poop, in decimetres, of this height for a summer mark of at most `wish`, both in millimetres.
+    pub fn shortest_poop(record: &[u8], height: u64, wish: u64) -> Result<u64, Refusal> {
+        unsafe { loadline_shortest_poop(record.as_ptr(), record.len(), height, wish) }.result()
+    }
+    pub fn read(record: &[u8]) -> Result<Ship, Refusal> {
+        unsafe { loadline_read(record.as_ptr(), record.len()) }.result()
+    }
+    /// How many bytes, from the buffer's start, are now the ship's record.
+    pub fn write(buffer: &mut [u8], ship: &Ship) -> Result<usize, Refusal> {
+        unsafe { loadline_write(buffer.as_mut_ptr(), buffer.len(), *ship) }.result().map(|bytes| bytes as usize)
+    }
+}
+
+fn show(record: &[u8]) -> Result<(), loadline::Refusal> {
+    match loadline::marks(record) {
+        Ok(m) => println!("S {} T {} W {} WNA {} F {} TF {}", m.s, m.t, m.w, m.wna, m.f, m.tf),
+        Err(r) => println!("refused {} {}", r.number, r.place),
+    }
+    let ship = loadline::read(record)?;
+    print!("L {} type {} houses {}", ship.length, ["A", "B"][ship.kind as usize], ship.n);
+    for house in &ship.houses[..ship.n as usize] {
+        print!(" {}..{}", house.aft, house.fore);
+    }
+    print!("\npoop of 1950 mm for S 1000: ");
+    match loadline::shortest_poop(record, 1950, 1000) {
+        Ok(decimetres) => println!("{decimetres} dm"),
+        Err(r) => println!("refused {} {}", r.number, r.place),
+    }
+    let mut copy = [0; 91];
+    match loadline::write(&mut copy, &ship) {
+        Ok(bytes) if copy[..bytes] == *record => println!("written back: the same {bytes} bytes"),
+        _ => println!("written back: not the same"),
+    }
+    Ok(())
+}
+
+fn main() -> ExitCode {
+    let Some(path) = env::args_os().nth(1) else {
+        eprintln!("usage: marks RECORD");
+        return ExitCode::FAILURE;
+    };
+    // One byte more than a record can have: a longer file is refused, not cut to a record.
+    let mut record = Vec::new();
+    if let Err(why) = File::open(&path).and_then(|file| file.take(92).read_to_end(&mut record)) {
+        eprintln!("marks: {}: {why}", path.to_string_lossy());
+        return ExitCode::FAILURE;
+    }
+    if let Err(r) = show(&record) {
+        println!("no ship: refused {} {}", r.number, r.place); // a refusal is an answer, no failure
+    }
+    ExitCode::SUCCESS
+}

@@ -1,0 +1,147 @@
+/*
+ * loadline.h: load-line marks that are proved.
+ *
+ * From a ship record of at most 91 bytes: the six marks of the load-line Convention's Annex I with the 2003 amendments,
+ * or one numbered refusal; the shortest poop for a wished summer mark; a reader and a writer of the record.
+ *
+ * For x86-64 Linux. Link libloadline.a, or libloadline.so; ./library makes both. They need memcpy and nothing else.
+ * No call allocates, keeps state, prints or fails in any way but a numbered refusal. Any number of threads may call at
+ * once. Every byte string and every number is a permissible argument: nothing has to be checked before a call.
+ *
+ * What is proved (in Rattle; docs/PROMISES.md has the list): for every byte string and every number, the marks, ship,
+ * length or refusal that come back, and each byte of the buffer afterwards.
+ * What is not: that pointer and length describe memory which the caller owns, and which no other thread writes during the
+ * call; nothing can check that. Nor that this header describes the library, which examples/run tries; nor the compiler.
+ *
+ * Refusals. The order is the order of the checks: the first that applies is given. The place is 0 where none is named.
+ * Calls: M loadline_marks, P loadline_shortest_poop, R loadline_read, W loadline_write.
+ *
+ *   No.  When                                                              Place                         Calls
+ *    1   under 27 bytes                                                                                  M P R
+ *    2   version not 1                                                                                   M P R
+ *    3   type not 0 or 1                                                                                 M P R W
+ *    4   n above 8                                                                                       M P R W
+ *    5   length is not 27 + 8n                                                                           M P R
+ *    6   a spare bit set                                                                                 M P R
+ *    7   a field 1 to 13 outside its range or bits                         lowest such field             M P R W
+ *    8   one of fields 12, 13 zero and not the other                                                     M P R W
+ *    9   house: fore end not above aft end, fore end at or below 0,
+ *        aft end at or above L, aft end below -20000, fore end
+ *        above L + 20000, height outside 1 to 8191                         first such house, from 0      M P R W
+ *   10   raised quarterdeck: not enclosed, aft end above 0,
+ *        or fore end at or above L                                         first such house, from 0      M P R W
+ *   11   aft end below the previous house's fore end                       first such later house        M P R W
+ *   12   summer mark at or above D                                                                       M
+ *   13   fresh allowance above summer draught                                                            M
+ *   14   poop's height outside 1 to 8191, or wish outside 50 to 60000                                    P
+ *   15   first house has its aft end at or below 0, or n is 8                                            P
+ *   16   no length fits                                                                                  P
+ *   17   buffer shorter than the record                                                                  W
+ */
+#ifndef LOADLINE_H
+#define LOADLINE_H
+
+#include <stddef.h>
+#include <stdint.h>
+
+#ifdef __cplusplus
+extern "C" {
+#endif
+
+/* What an answer's `refusal` may be. */
+enum loadline_refusal {
+    LOADLINE_ACCEPTED = 0,
+    LOADLINE_SHORT = 1,
+    LOADLINE_VERSION = 2,
+    LOADLINE_TYPE = 3,
+    LOADLINE_HOUSE_COUNT = 4,
+    LOADLINE_RECORD_LENGTH = 5,
+    LOADLINE_SPARE_BIT = 6,
+    LOADLINE_FIELD = 7,
+    LOADLINE_HALF_CERTIFIED = 8,
+    LOADLINE_HOUSE = 9,
+    LOADLINE_QUARTERDECK = 10,
+    LOADLINE_OVERLAP = 11,
+    LOADLINE_NO_DRAUGHT = 12,
+    LOADLINE_FRESH_ALLOWANCE = 13,
+    LOADLINE_QUESTION = 14,
+    LOADLINE_NO_ROOM = 15,
+    LOADLINE_NO_LENGTH = 16,
+    LOADLINE_BUFFER = 17
+};
+
+/* A record has 27 + 8n bytes for n houses. To take one from a file, read up to LOADLINE_MOST_BYTES + 1 bytes: the one more
+ * tells a longer file, which is refused, from a record. */
+enum { LOADLINE_LEAST_BYTES = 27, LOADLINE_MOST_BYTES = 91, LOADLINE_MOST_HOUSES = 8 };
+
+/* A house on the freeboard deck. Its ends are stations, in mm forward of the after perpendicular; abaft it they are
+ * negative. A flag reads as 0 or 1; for writing, 0 is no and any other number is yes. */
+typedef struct {
+    uint64_t enclosed;      /* flag; only an enclosed house counts for the marks */
+    uint64_t quarterdeck;   /* flag: a raised quarterdeck */
+    int64_t aft;            /* aft end, mm, -20000 to below L */
+    int64_t fore;           /* fore end, mm, above 0 and to L + 20000 */
+    uint64_t height;        /* mm, 1 to 8191 */
+} loadline_house;
+
+/* A ship. The numbers are those of refusal 7's fields. */
+typedef struct {
+    uint64_t kind;          /* type: 0 A, 1 B */
+    uint64_t n;             /* houses, 0 to 8 */
+    uint64_t length;        /*  1 L, mm, 24000 to 365000 */
+    uint64_t depth;         /*  2 D, depth for freeboard, mm, 1000 to 60000 */
+    uint64_t moulded;       /*  3 M, least moulded depth, mm, 1000 to 60000 */
+    uint64_t block;         /*  4 Cb, block coefficient, 1/10000, 1 to 12000 */
+    uint64_t waterplane;    /*  5 Cwf, coefficient of the waterplane forward, 1/10000, 1 to 10000 */
+    int64_t sheer[6];       /*  6 to 11, mm, -8192 to 8191: AP, L/6, L/3 from AP, then L/3, L/6 from FP, FP */
+    uint64_t displacement;  /* 12 t, to 1048575; 0 is not certified */
+    uint64_t immersion;     /* 13 1/100 t per cm, to 65535; 0 is not certified */
+    loadline_house houses[LOADLINE_MOST_HOUSES];     /* the first n, in order from aft; they may touch, not overlap */
+} loadline_ship;
+
+/* Every answer begins with the refusal's number, 0 for none, and its place. Beside a refusal all else is 0. */
+typedef struct {
+    uint64_t refusal, place;
+    int64_t s, t, w, wna, f, tf;    /* freeboards, mm: summer, tropical, winter, winter North Atlantic, fresh,
+                                       tropical fresh. s and t are at least 50; f and tf may be negative */
+} loadline_marks_answer;
+
+typedef struct {
+    uint64_t refusal, place;
+    uint64_t decimetres;            /* the poop's length, dm; 0: none is needed */
+} loadline_poop_answer;
+
+typedef struct {
+    uint64_t refusal, place;
+    loadline_ship ship;             /* places beyond n are 0 */
+} loadline_read_answer;
+
+typedef struct {
+    uint64_t refusal, place;
+    uint64_t bytes;                 /* the record's length, 27 + 8n */
+} loadline_write_answer;
+
+/* In all calls the pointer is to `length` bytes; with length 0 it may be NULL. A record is never changed. */
+
+/* The six marks of a record. S is never below the value worked without rounding, and less than 1.1 mm above it.
+ * Refuses 1 to 13. */
+loadline_marks_answer loadline_marks(const uint8_t *record, size_t length);
+
+/* The shortest poop for which the record's ship would have marks with S at most `wish` mm: an enclosed house of `height` mm
+ * from the after perpendicular, set before the others, in whole decimetres up to L. Every shorter one has been ruled out.
+ * Refuses 1 to 11, then 14 to 16. The record's own marks need not exist: 12 and 13 are no refusals here. */
+loadline_poop_answer loadline_shortest_poop(const uint8_t *record, size_t length, uint64_t height, uint64_t wish);
+
+/* The ship of a record. Writing it gives the same bytes back. Refuses 1 to 11. */
+loadline_read_answer loadline_read(const uint8_t *record, size_t length);
+
+/* Writes the ship's record at the buffer's start. Reading it gives the ship back. Places beyond n are ignored. An accepted
+ * write changes the first `bytes` bytes only, a refused one none. A number too big for the record is refused as any other
+ * outside its range. Refuses 3, 4, 7 to 11 and 17; 17 comes last, so that a short buffer hides no fault of the ship. */
+loadline_write_answer loadline_write(uint8_t *buffer, size_t length, loadline_ship ship);
+
+#ifdef __cplusplus
+}
+#endif
+
+#endif

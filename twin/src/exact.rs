@@ -197,7 +197,7 @@ pub fn bound_holds(ship: &Ship) -> bool {
 pub fn cost(ship: &Ship) -> Cost {
     let steps = marks::steps(ship);
     let exact = exact(ship);
-    let above = |um: i128, exact: &Fraction| (whole(um) - exact * whole(1000)).to_f64();
+    let above = |um: i64, exact: &Fraction| (whole(um) - exact * whole(1000)).to_f64();
     Cost {
         mark: above(1000 * steps.summer, &exact.summer),
         summer: above(

@@ -1,6 +1,7 @@
 //! The six ordinary marks, with the roundings that a mark is worked with.
 //!
-//! "Up" and "down" are toward plus and minus infinity, to whole um.
+//! "Up" and "down" are toward plus and minus infinity, to whole um. Every product fits an i64; where
+//! one comes near, its bound stands beside it.
 
 use std::fmt;
 
@@ -11,12 +12,12 @@ use crate::table28;
 /// The six marks, mm below the deck line. The two fresh water marks may be negative.
 #[derive(Clone, Copy, Debug, PartialEq, Eq)]
 pub struct Marks {
-    pub summer: i128,
-    pub tropical: i128,
-    pub winter: i128,
-    pub winter_north_atlantic: i128,
-    pub fresh: i128,
-    pub tropical_fresh: i128,
+    pub summer: i64,
+    pub tropical: i64,
+    pub winter: i64,
+    pub winter_north_atlantic: i64,
+    pub fresh: i64,
+    pub tropical_fresh: i64,
 }
 
 impl fmt::Display for Marks {
@@ -38,57 +39,56 @@ impl fmt::Display for Marks {
 #[derive(Clone, Debug, PartialEq, Eq)]
 pub struct Steps {
     /// S, mm: length of the enclosed houses within L.
-    pub covered: i128,
+    pub covered: i64,
     /// E: effective length of the enclosed houses.
-    pub effective: i128,
+    pub effective: i64,
     /// The house that is the forecastle.
     pub forecastle: Option<usize>,
     /// Regulation 28.
-    pub table: i128,
+    pub table: i64,
     /// Regulation 29.
-    pub short_b: i128,
+    pub short_b: i64,
     /// Table and addition for short B ships, after regulation 30.
-    pub fullness: i128,
+    pub fullness: i64,
     /// Regulation 31.
-    pub depth: i128,
+    pub depth: i64,
     /// Regulation 37.
-    pub deduction: i128,
+    pub deduction: i64,
     /// Regulation 38: mean excess of sheer, negative if deficient.
-    pub sheer_mean: i128,
+    pub sheer_mean: i64,
     /// Tenths of mm that houses reach before and abaft amidships, at most 2 L in mm.
-    pub cover_reach: i128,
-    pub sheer_added: i128,
-    pub sheer_deducted: i128,
+    pub cover_reach: i64,
+    pub sheer_added: i64,
+    pub sheer_deducted: i64,
     /// Freeboard after regulations 28 to 38.
-    pub corrected: i128,
+    pub corrected: i64,
     /// Regulation 39: bow height asked for.
-    pub bow_height: i128,
+    pub bow_height: i64,
     /// Freeboard that gives this bow height.
-    pub bow: i128,
+    pub bow: i64,
     /// Regulation 40: the summer mark, mm.
-    pub summer: i128,
+    pub summer: i64,
 }
 
 /// Quotient rounded down; the divisor is above zero.
-fn down(number: i128, divisor: i128) -> i128 {
+fn down(number: i64, divisor: i64) -> i64 {
     number.div_euclid(divisor)
 }
 
 /// Quotient rounded up; the divisor is above zero.
-fn up(number: i128, divisor: i128) -> i128 {
+fn up(number: i64, divisor: i64) -> i64 {
     -down(-number, divisor)
 }
 
 /// The six marks, or refusal 12 or 13.
 pub fn marks(ship: &Ship) -> Result<Marks, Refusal> {
     let summer = steps(ship).summer;
-    let draught = i128::from(ship.depth) - summer;
+    let draught = ship.depth - summer;
     Refusal::unless(draught > 0, Refusal::MARK_AT_DECK)?;
-    let (displacement, immersion) = (i128::from(ship.displacement), i128::from(ship.immersion));
     // 40(7), and 40(8) if not certified.
-    let allowance = match immersion {
+    let allowance = match ship.immersion {
         0 => down(draught, 48),
-        _ => down(25 * displacement, immersion),
+        immersion => down(25 * ship.displacement, immersion),
     };
     Refusal::unless(allowance <= draught, Refusal::FRESH_ALLOWANCE)?;
     let tropical = (summer - down(draught, 48)).max(50); // 40(3), 40(4)
@@ -105,14 +105,14 @@ pub fn marks(ship: &Ship) -> Result<Marks, Refusal> {
 
 /// The steps to the summer mark.
 pub fn steps(ship: &Ship) -> Steps {
-    let length = i128::from(ship.length);
+    let length = ship.length;
     let covered = enclosed(ship).map(|(_, house)| length_within(house, length)).sum();
     let effective = enclosed(ship).map(|(_, house)| effective_length(house, length)).sum();
     let forecastle = enclosed(ship).find(|(_, h)| h.fore >= ship.length).map(|(i, _)| i);
     let table = tabular(ship.kind, length);
     let short_b = short_b_addition(ship.kind, length, effective);
     let fullness = after_fullness(ship, table + short_b);
-    let depth = depth_addition(length, i128::from(ship.depth));
+    let depth = depth_addition(length, ship.depth);
     let deduction = houses_deduction(ship, length, effective, forecastle);
     let sheer_mean = mean_excess_of_sheer(&ship.sheer, length);
     let cover_reach = cover_reach(ship, length);
@@ -147,12 +147,12 @@ fn enclosed(ship: &Ship) -> impl Iterator<Item = (usize, &House)> {
 }
 
 /// Regulation 34: the part between the perpendiculars, mm.
-fn length_within(house: &House, length: i128) -> i128 {
-    i128::from(house.fore).min(length) - i128::from(house.aft).max(0)
+fn length_within(house: &House, length: i64) -> i64 {
+    house.fore.min(length) - house.aft.max(0)
 }
 
 /// Regulation 33: standard height in mm as a fraction, from L in mm.
-pub fn standard_height(quarterdeck: bool, length: i128) -> (i128, i128) {
+pub fn standard_height(quarterdeck: bool, length: i64) -> (i64, i64) {
     match (quarterdeck, length) {
         (true, ..30_000) => (900, 1),
         (true, 30_000..75_000) => (length + 105_000, 150),
@@ -165,13 +165,13 @@ pub fn standard_height(quarterdeck: bool, length: i128) -> (i128, i128) {
 }
 
 /// Regulation 35: effective length, um, down.
-fn effective_length(house: &House, length: i128) -> i128 {
+fn effective_length(house: &House, length: i64) -> i64 {
     let mut whole = 1000 * length_within(house, length);
     if house.quarterdeck {
         whole = whole.min(600 * length); // 35(4): 0.6 L
     }
     let (standard, parts) = standard_height(house.quarterdeck, length);
-    let height = i128::from(house.height) * parts;
+    let height = house.height as i64 * parts;
     if height < standard {
         down(whole * height, standard)
     } else {
@@ -180,19 +180,19 @@ fn effective_length(house: &House, length: i128) -> i128 {
 }
 
 /// Regulation 28: row value, linear between rows; exact.
-pub fn tabular(kind: Kind, length: i128) -> i128 {
+pub fn tabular(kind: Kind, length: i64) -> i64 {
     let rows = match kind {
         Kind::A => &table28::TYPE_A,
         Kind::B => &table28::TYPE_B,
     };
     let row = (length / 1000) as usize - table28::FIRST;
-    let value = i128::from(rows[row]);
-    let next = i128::from(rows[(row + 1).min(table28::ROWS - 1)]);
+    let value = i64::from(rows[row]);
+    let next = i64::from(rows[(row + 1).min(table28::ROWS - 1)]);
     1000 * value + (next - value) * (length % 1000)
 }
 
 /// Regulation 29: 7.5 (100 - L) (0.35 - E/L), up.
-fn short_b_addition(kind: Kind, length: i128, effective: i128) -> i128 {
+fn short_b_addition(kind: Kind, length: i64, effective: i64) -> i64 {
     if kind == Kind::B && length < 100_000 && effective < 350 * length {
         up(3 * (100_000 - length) * (350 * length - effective), 400 * length)
     } else {
@@ -201,12 +201,12 @@ fn short_b_addition(kind: Kind, length: i128, effective: i128) -> i128 {
 }
 
 /// Cb in 1/10000, never above 1.0 (30).
-fn limited_cb(ship: &Ship) -> i128 {
-    i128::from(ship.cb).min(10_000)
+fn limited_cb(ship: &Ship) -> i64 {
+    ship.cb.min(10_000)
 }
 
 /// Regulation 30: times (Cb + 0.68) / 1.36 above 0.68, up.
-fn after_fullness(ship: &Ship, freeboard: i128) -> i128 {
+fn after_fullness(ship: &Ship, freeboard: i64) -> i64 {
     match limited_cb(ship) {
         ..=6_800 => freeboard,
         cb => up(freeboard * (cb + 6_800), 13_600),
@@ -214,7 +214,7 @@ fn after_fullness(ship: &Ship, freeboard: i128) -> i128 {
 }
 
 /// Regulation 31: (D - L/15) R, up, where D is above L/15.
-pub fn depth_addition(length: i128, depth: i128) -> i128 {
+pub fn depth_addition(length: i64, depth: i64) -> i64 {
     let excess = (15 * depth - length).max(0); // fifteenths of a mm
     if length < 120_000 {
         up(excess * length, 7_200)
@@ -224,10 +224,10 @@ pub fn depth_addition(length: i128, depth: i128) -> i128 {
 }
 
 /// Regulation 37: the percentages at each tenth of E/L, in tenths of a per cent.
-const PERCENTAGES: [i128; 11] = [0, 70, 140, 210, 310, 410, 520, 630, 753, 877, 1000];
+const PERCENTAGES: [i64; 11] = [0, 70, 140, 210, 310, 410, 520, 630, 753, 877, 1000];
 
 /// Regulation 37(1): deduction where E is L, down.
-fn full_deduction(length: i128) -> i128 {
+fn full_deduction(length: i64) -> i64 {
     match length {
         ..85_000 => 350_000 + down(510 * (length - 24_000), 61),
         85_000..122_000 => 860_000 + down(210 * (length - 85_000), 37),
@@ -236,7 +236,7 @@ fn full_deduction(length: i128) -> i128 {
 }
 
 /// Regulation 37(2): the share of the full deduction in millionths, down.
-fn deduction_share(length: i128, effective: i128) -> i128 {
+fn deduction_share(length: i64, effective: i64) -> i64 {
     let tenth = 100 * length; // 0.1 L in um
     let (below, beyond) = (effective / tenth, effective % tenth);
     match PERCENTAGES[below as usize..] {
@@ -246,7 +246,7 @@ fn deduction_share(length: i128, effective: i128) -> i128 {
 }
 
 /// Regulation 37: what the houses take off, down.
-fn houses_deduction(ship: &Ship, length: i128, effective: i128, forecastle: Option<usize>) -> i128 {
+fn houses_deduction(ship: &Ship, length: i64, effective: i64, forecastle: Option<usize>) -> i64 {
     // 37(3). 0.07 L is a whole number of um, so rounding down hides no length below it.
     let long_enough = forecastle
         .is_some_and(|place| effective_length(&ship.houses[place], length) >= 70 * length);
@@ -258,8 +258,8 @@ fn houses_deduction(ship: &Ship, length: i128, effective: i128, forecastle: Opti
 }
 
 /// Regulation 38(8) to (11): mean excess of sheer over both halves, down.
-fn mean_excess_of_sheer(sheer: &[i64; 6], length: i128) -> i128 {
-    let [ap, ap_sixth, ap_third, fp_third, fp_sixth, fp] = sheer.map(i128::from);
+fn mean_excess_of_sheer(sheer: &[i64; 6], length: i64) -> i64 {
+    let [ap, ap_sixth, ap_third, fp_third, fp_sixth, fp] = *sheer;
     // Sums are in 1/30000 mm: the standard after sum is 66.7 (L/3 + 10), the forward twice that.
     let standard = 667 * (length + 30_000);
     let after_sum = 30_000 * (ap + 3 * ap_sixth + 3 * ap_third);
@@ -274,6 +274,7 @@ fn mean_excess_of_sheer(sheer: &[i64; 6], length: i128) -> i128 {
         // 38(11): none at 50% of the standard after sum, all at 75%.
         credit = (4 * after_sum - 2 * standard).clamp(0, standard);
     }
+    // `standard` is below 2.7e8, either half below 2.3e9: the sum of the products is below 1.3e18.
     forward *= credit;
     after *= standard;
     // 1/30000 mm is 1/30 um; an eighth of each sum, and half of the two.
@@ -282,11 +283,11 @@ fn mean_excess_of_sheer(sheer: &[i64; 6], length: i128) -> i128 {
 
 /// Regulation 38(16): tenths of mm that enclosed houses reach before and abaft amidships, each
 /// reach limited to 0.1 L.
-fn cover_reach(ship: &Ship, length: i128) -> i128 {
+fn cover_reach(ship: &Ship, length: i64) -> i64 {
     enclosed(ship)
         .map(|(_, house)| {
-            let before = 10 * i128::from(house.fore) - 5 * length;
-            let abaft = 5 * length - 10 * i128::from(house.aft);
+            let before = 10 * house.fore - 5 * length;
+            let abaft = 5 * length - 10 * house.aft;
             if before >= 0 && abaft >= 0 {
                 before.min(length) + abaft.min(length)
             } else {
@@ -297,23 +298,23 @@ fn cover_reach(ship: &Ship, length: i128) -> i128 {
 }
 
 /// Regulation 38(14) to (16): what is added, up, and what is deducted, down.
-fn sheer_correction(mean: i128, length: i128, covered: i128, reach: i128) -> (i128, i128) {
+fn sheer_correction(mean: i64, length: i64, covered: i64, reach: i64) -> (i64, i64) {
     // 0.75 - S/2L is (3L - 2S) / 4L; the cover is the reach over 2L tenths.
     let part = 3 * length - 2 * covered;
     if mean < 0 {
         (up(-mean * part, 4 * length), 0)
     } else {
+        // Greatest for the longest ship: 5.6e6 x 1.1e6 x 7.3e5, below 4.5e18.
         let excess = down(mean * part * reach, 4 * length * 2 * length);
         (0, excess.min(down(5 * length, 4)))
     }
 }
 
 /// Regulation 39(1): bow height, up.
-fn bow_height(ship: &Ship, length: i128) -> i128 {
-    let moulded = i128::from(ship.moulded);
+fn bow_height(ship: &Ship, length: i64) -> i64 {
     // b2 in millionths, over 170 M: 0.0129 L / (0.85 M) is 2580000 L / (170 M) millionths.
-    let coefficients = 20_800_000 + 609 * limited_cb(ship) - 1_603 * i128::from(ship.cwf);
-    let b2 = up(17 * moulded * coefficients - 2_580_000 * length, 170 * moulded);
+    let coefficients = 20_800_000 + 609 * limited_cb(ship) - 1_603 * ship.cwf;
+    let b2 = up(17 * ship.moulded * coefficients - 2_580_000 * length, 170 * ship.moulded);
     // b1 in um, over 5e9.
     let cubic = 303_750_000_000 * length - 937_500 * length.pow(2) + length.pow(3);
     let b1 = if b2 >= 0 { up(cubic, 5_000_000_000) } else { down(cubic, 5_000_000_000) };
@@ -321,13 +322,12 @@ fn bow_height(ship: &Ship, length: i128) -> i128 {
 }
 
 /// Regulation 39(2): bow height that sheer and forecastle give.
-fn bow_credit(ship: &Ship, forecastle: Option<usize>) -> i128 {
+fn bow_credit(ship: &Ship, forecastle: Option<usize>) -> i64 {
     let [.., sixth, perpendicular] = ship.sheer;
     let sheer = if sixth > 0 { perpendicular } else { 0 };
-    let length = i128::from(ship.length);
     let height = forecastle
         .map(|place| &ship.houses[place])
-        .filter(|house| 100 * length_within(house, length) >= 7 * length)
+        .filter(|house| 100 * length_within(house, ship.length) >= 7 * ship.length)
         .map_or(0, |house| house.height);
-    1000 * (i128::from(sheer) + i128::from(height))
+    1000 * (sheer + height as i64)
 }

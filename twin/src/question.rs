@@ -12,19 +12,34 @@ pub fn shortest_poop(bytes: &[u8], height: u64, wish: u64) -> Result<i64, Refusa
     let full = ship.houses.len() == MAX_HOUSES;
     let taken = ship.houses.first().is_some_and(|house| house.aft <= 0);
     Refusal::unless(!full && !taken, Refusal::NO_ROOM)?;
+    let fits = |ship: &Ship| summer(ship).is_ok_and(|mark| mark <= wish as i64);
+    if fits(&ship) {
+        return Ok(0);
+    }
     // A longer poop can raise the mark, so every length is tried.
-    (0..=ship.length / 100)
-        .find(|&k| summer_with_poop(&ship, height, k).is_ok_and(|mark| mark <= wish.into()))
+    let mut longer = with_poop(&ship, height, 1);
+    (1..=ship.length / 100)
+        .find(|&k| {
+            longer.houses[0].fore = 100 * k;
+            fits(&longer)
+        })
         .ok_or(Refusal::at(Refusal::NOTHING_FITS, 0))
 }
 
 /// The summer mark with a poop of k dm before the other houses, or one of refusals 9 to 13.
-pub fn summer_with_poop(ship: &Ship, height: u64, k: i64) -> Result<i128, Refusal> {
-    let poop = House { enclosed: true, quarterdeck: false, aft: 0, fore: 100 * k, height };
-    let mut longer = ship.clone();
-    if k > 0 {
-        longer.houses.insert(0, poop);
+pub fn summer_with_poop(ship: &Ship, height: u64, k: i64) -> Result<i64, Refusal> {
+    match k {
+        0 => summer(ship),
+        _ => summer(&with_poop(ship, height, k)),
     }
-    record::check_houses(longer.length, &longer.houses)?;
-    marks::marks(&longer).map(|marks| marks.summer)
+}
+
+fn with_poop(ship: &Ship, height: u64, k: i64) -> Ship {
+    let poop = House { enclosed: true, quarterdeck: false, aft: 0, fore: 100 * k, height };
+    Ship { houses: ship.houses.after(poop), ..ship.clone() }
+}
+
+fn summer(ship: &Ship) -> Result<i64, Refusal> {
+    record::check_houses(ship.length, &ship.houses)?;
+    marks::marks(ship).map(|marks| marks.summer)
 }

@@ -29,7 +29,8 @@ impl Random {
         self.between(1, n) == 1
     }
 
-    fn pick<T: Copy>(&mut self, from: &[T]) -> T {
+    /// One of the things, each as likely.
+    pub fn pick<T: Copy>(&mut self, from: &[T]) -> T {
         from[self.between(0, from.len() as i64 - 1) as usize]
     }
 

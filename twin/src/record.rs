@@ -1,5 +1,7 @@
 //! The ship record, version 1: 27 bytes, then 8 for each house, bit-packed.
 
+use std::ops::{Deref, DerefMut};
+
 use crate::bits::{BitReader, BitWriter};
 use crate::refusal::Refusal;
 
@@ -24,6 +26,44 @@ pub struct House {
     pub aft: i64,
     pub fore: i64,
     pub height: u64,
+}
+
+/// Up to eight houses in order from aft, kept by value; to be used as a slice.
+#[derive(Clone, Copy, Debug, Default, PartialEq, Eq)]
+pub struct Houses {
+    /// Zero beyond the count, so that equal houses are equal all over.
+    places: [House; MAX_HOUSES],
+    count: usize,
+}
+
+impl Houses {
+    /// A copy of at most eight houses.
+    pub fn of(houses: &[House]) -> Houses {
+        let mut places = [House::default(); MAX_HOUSES];
+        places[..houses.len()].copy_from_slice(houses);
+        Houses { places, count: houses.len() }
+    }
+
+    /// The same houses after one more; there are at most seven.
+    pub fn after(&self, first: House) -> Houses {
+        let mut places = [first; MAX_HOUSES];
+        places[1..].copy_from_slice(&self.places[..MAX_HOUSES - 1]);
+        Houses { places, count: self.count + 1 }
+    }
+}
+
+impl Deref for Houses {
+    type Target = [House];
+
+    fn deref(&self) -> &[House] {
+        &self.places[..self.count]
+    }
+}
+
+impl DerefMut for Houses {
+    fn deref_mut(&mut self) -> &mut [House] {
+        &mut self.places[..self.count]
+    }
 }
 
 /// A ship as someone states it. Nothing has been checked: any number may stand anywhere.
@@ -63,8 +103,7 @@ pub struct Ship {
     pub sheer: [i64; 6],
     pub displacement: i64,
     pub immersion: i64,
-    /// The houses in order from aft.
-    pub houses: Vec<House>,
+    pub houses: Houses,
 }
 
 /// Bytes of a record with `n` houses.
@@ -116,8 +155,8 @@ pub fn read(bytes: &[u8]) -> Result<Ship, Refusal> {
 /// Writes a ship: refusals 3, 4, 7 to 11 and 17. Gives the record's length. A refusal changes no
 /// byte; an accepted write changes the record's bytes only.
 pub fn write(buffer: &mut [u8], raw: &RawShip) -> Result<usize, Refusal> {
-    let ship = raw.check()?;
-    let length = record_bytes(ship.houses.len());
+    let (_, count) = raw.check_all()?;
+    let length = record_bytes(count);
     let record = buffer.get_mut(..length).ok_or(Refusal::at(Refusal::SHORT_BUFFER, 0))?;
     pack(record, raw);
     Ok(length)
@@ -155,12 +194,7 @@ pub fn pack(record: &mut [u8], raw: &RawShip) {
 impl RawShip {
     /// The ship, if it passes refusals 3, 4 and 7 to 11.
     pub fn check(&self) -> Result<Ship, Refusal> {
-        let (kind, count) = kind_and_count(self.kind, self.n)?;
-        self.check_fields()?;
-        let certified = (self.displacement != 0, self.immersion != 0);
-        Refusal::unless(certified.0 == certified.1, Refusal::HALF_CERTIFIED)?;
-        let houses = &self.houses[..count];
-        check_houses(self.length as i64, houses)?;
+        let (kind, count) = self.check_all()?;
         // All fields are below 2^20 by now.
         Ok(Ship {
             kind,
@@ -172,8 +206,18 @@ impl RawShip {
             sheer: self.sheer,
             displacement: self.displacement as i64,
             immersion: self.immersion as i64,
-            houses: houses.to_vec(),
+            houses: Houses::of(&self.houses[..count]),
         })
+    }
+
+    /// Refusals 3, 4 and 7 to 11; what numbers that pass say of the kind and the houses.
+    fn check_all(&self) -> Result<(Kind, usize), Refusal> {
+        let (kind, count) = kind_and_count(self.kind, self.n)?;
+        self.check_fields()?;
+        let certified = (self.displacement != 0, self.immersion != 0);
+        Refusal::unless(certified.0 == certified.1, Refusal::HALF_CERTIFIED)?;
+        check_houses(self.length as i64, &self.houses[..count])?;
+        Ok((kind, count))
     }
 
     /// Refusal 7, the lowest field outside its range or bits.
@@ -195,7 +239,7 @@ impl RawShip {
 impl Ship {
     /// The same ship as numbers to write; the places beyond the last house are zero.
     pub fn raw(&self) -> RawShip {
-        let mut raw = RawShip {
+        RawShip {
             kind: self.kind as u64,
             n: self.houses.len() as u64,
             length: self.length as u64,
@@ -206,10 +250,8 @@ impl Ship {
             sheer: self.sheer,
             displacement: self.displacement as u64,
             immersion: self.immersion as u64,
-            ..RawShip::default()
-        };
-        raw.houses[..self.houses.len()].copy_from_slice(&self.houses);
-        raw
+            houses: self.houses.places,
+        }
     }
 }
 

@@ -34,7 +34,7 @@ fn ship_line(ship: &Ship) -> String {
         ship.immersion,
         ship.houses.len()
     );
-    for h in &ship.houses {
+    for h in ship.houses.iter() {
         let (enclosed, quarterdeck) = (u8::from(h.enclosed), u8::from(h.quarterdeck));
         let _ = write!(line, " [{enclosed} {quarterdeck} {} {} {}]", h.aft, h.fore, h.height);
     }

@@ -3,6 +3,7 @@
 mod common;
 
 use common::{house, k1, k2, ship, with};
+use twin::exact::bound_holds;
 use twin::marks::{marks, steps, Marks};
 use twin::random::Random;
 use twin::record::{House, RawShip};
@@ -18,7 +19,7 @@ fn covered_length_is_a_count() {
         let covers =
             |mm: i64| ship.houses.iter().any(|h: &House| h.enclosed && h.aft <= mm && mm < h.fore);
         let count = (0..ship.length).filter(|&mm| covers(mm)).count();
-        assert_eq!(steps(&ship).covered, count as i128);
+        assert_eq!(steps(&ship).covered, count as i64);
     }
 }
 
@@ -118,4 +119,29 @@ fn sheer_halves() {
     assert_eq!(mean(1_334, 5_344), -83_375);
     assert_eq!(mean(0, 5_344), -166_750);
     assert_eq!(mean(1_667, 5_344), -62_313); // -62562.5 + 500 x 1332/2668
+}
+
+/// Ships at the ends of every range: a product that does not fit ends the test.
+#[test]
+fn greatest_products_fit() {
+    for ends in 0..1 << 6 {
+        let end = |place: u32, least, most| if ends >> place & 1 == 0 { least } else { most };
+        let (after, forward) = (end(0, -8_192, 8_191), end(1, -8_192, 8_191));
+        let length = end(2, 24_000, 365_000);
+        let raw = RawShip {
+            kind: end(3, 0, 1) as u64,
+            length: length as u64,
+            depth: 60_000,
+            moulded: end(4, 1_000, 60_000) as u64,
+            cb: end(5, 1, 12_000) as u64,
+            cwf: end(5, 10_000, 1) as u64,
+            sheer: [after, after, after, forward, forward, forward],
+            ..k1()
+        };
+        // None, the whole cover with as little as can be of L under it, and all of L.
+        let cover = house(2 * length / 5, 3 * length / 5, 1);
+        for houses in [&[][..], &[cover], &[house(0, length, 8_191)]] {
+            assert!(bound_holds(&ship(&with(raw.clone(), houses))), "{raw:?}");
+        }
+    }
 }

@@ -67,9 +67,9 @@ fn agrees_with_a_search_over_records() {
             marks(&ship).ok().map(|marks| marks.summer)
         };
         let lengths = 0..=raw.length as i64 / 100;
-        let all: Vec<Option<i128>> = lengths.map(with_poop).collect();
+        let all: Vec<Option<i64>> = lengths.map(with_poop).collect();
         let least = all.iter().flatten().min().copied().unwrap_or(1_000);
-        for wish in [least - 1, least, least + random.between(1, 100) as i128] {
+        for wish in [least - 1, least, least + random.between(1, 100)] {
             let wish = wish.clamp(50, 60_000);
             let found = all.iter().position(|mark| mark.is_some_and(|mark| mark <= wish));
             let answer = shortest_poop(&packed(&raw), height, wish as u64);

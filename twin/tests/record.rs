@@ -3,7 +3,7 @@
 mod common;
 
 use common::{house, k1, k2, packed, with};
-use twin::bits::BitWriter;
+use twin::bits;
 use twin::random::Random;
 use twin::record::{read, record_bytes, write, House, RawShip};
 use twin::refusal::Refusal;
@@ -77,7 +77,7 @@ fn damaged_records() {
 fn read_with(raw: &RawShip, changes: &[(usize, usize, u64)]) -> Option<Refusal> {
     let mut bytes = packed(raw);
     for &(at, width, number) in changes {
-        BitWriter::starting_at(&mut bytes, at).put(width, number);
+        bits::put_over(&mut bytes, at, width, number);
     }
     read(&bytes).err()
 }

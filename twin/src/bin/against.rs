@@ -67,7 +67,7 @@ fn judge(ship: &Ship, line: &str) -> Result<f64, String> {
     let Some(mark) = line.strip_prefix("S ").and_then(|rest| rest.split(' ').next()) else {
         return Ok(0.0);
     };
-    let mark = whole(mark.parse::<i128>().map_err(|error| error.to_string())?);
+    let mark = whole(mark.parse::<i64>().map_err(|error| error.to_string())?);
     let exact = exact::exact(ship).summer;
     if exact <= mark && mark < &exact + over(11, 10) {
         Ok(((mark - exact) * whole(1000)).to_f64())

@@ -1,6 +1,6 @@
 //! Records as bytes, whole or damaged.
 
-use twin::bits::BitWriter;
+use twin::bits;
 use twin::record::{self, RawShip};
 
 /// First bit of the fields that are changed in place.
@@ -19,7 +19,7 @@ pub fn packed(raw: &RawShip) -> Vec<u8> {
 
 /// The bytes with a field put over.
 pub fn over(mut bytes: Vec<u8>, at: usize, width: usize, number: u64) -> Vec<u8> {
-    BitWriter::starting_at(&mut bytes, at).put(width, number);
+    bits::put_over(&mut bytes, at, width, number);
     bytes
 }
 

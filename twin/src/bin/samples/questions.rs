@@ -308,7 +308,7 @@ fn search_with(slip: Slip, ship: &Ship, height: u64, wish: u64) -> Result<i64, R
         let mut longer = ship.clone();
         if k > 0 {
             let quarterdeck = slip == Slip::Quarterdeck;
-            longer.houses.insert(0, House { quarterdeck, ..house(0, 100 * k, height) });
+            longer.houses = ship.houses.after(House { quarterdeck, ..house(0, 100 * k, height) });
         }
         record::check_houses(longer.length, &longer.houses).ok()?;
         let touches = k > 0 && ship.houses.first().is_some_and(|first| first.aft == 100 * k);
@@ -319,8 +319,8 @@ fn search_with(slip: Slip, ship: &Ship, height: u64, wish: u64) -> Result<i64, R
         (!refused).then(|| marks::steps(&longer).summer)
     };
     let fits = |k: i64| match mark(k) {
-        Some(mark) if slip == Slip::BelowWish => mark < wish.into(),
-        Some(mark) => mark <= wish.into(),
+        Some(mark) if slip == Slip::BelowWish => mark < wish as i64,
+        Some(mark) => mark <= wish as i64,
         None => false,
     };
     let nothing = Refusal::at(Refusal::NOTHING_FITS, 0);

@@ -1,6 +1,7 @@
 //! Plausible slips in one step of the marks. A case is worth keeping if some slip changes its line.
 //!
-//! The working below is the steps once more, with at most one slip in it.
+//! The working below is the steps once more, with at most one slip in it. It is in i128: what fits an
+//! i64 when worked rightly need not fit with a slip.
 
 use twin::marks::{standard_height, tabular, Marks};
 use twin::record::{House, Kind, Ship};
@@ -212,12 +213,12 @@ impl Working<'_> {
         let least = if self.has(Slip::FreshFloor) { 50 } else { i128::MIN };
         let tropical_fresh = if self.has(Slip::TropicalFreshEarly) { low } else { tropical };
         Ok(Marks {
-            summer,
-            tropical,
-            winter,
-            winter_north_atlantic: winter + addition,
-            fresh: (summer - allowance).max(least),
-            tropical_fresh: (tropical_fresh - allowance).max(least),
+            summer: summer as i64,
+            tropical: tropical as i64,
+            winter: winter as i64,
+            winter_north_atlantic: (winter + addition) as i64,
+            fresh: (summer - allowance).max(least) as i64,
+            tropical_fresh: (tropical_fresh - allowance).max(least) as i64,
         })
     }
 
@@ -276,15 +277,17 @@ impl Working<'_> {
     /// 33: standard height as a fraction of mm.
     fn standard(&self, quarterdeck: bool) -> (i128, i128) {
         let quarterdeck = quarterdeck && !self.has(Slip::DeckAsHouse);
-        let (mm, parts) = standard_height(quarterdeck, self.l);
-        match self.slip {
+        let length = self.ship.length;
+        let (mm, parts) = standard_height(quarterdeck, length);
+        let (mm, parts) = match self.slip {
             Some(Slip::HeightRounded) => (mm / parts, 1),
-            Some(Slip::HeightSteps) if (75_000..125_000).contains(&self.l) => {
+            Some(Slip::HeightSteps) if (75_000..125_000).contains(&length) => {
                 standard_height(quarterdeck, 75_000)
             }
-            Some(Slip::DeckFlat) if quarterdeck && self.l < 75_000 => (1_200, 1),
+            Some(Slip::DeckFlat) if quarterdeck && length < 75_000 => (1_200, 1),
             _ => (mm, parts),
-        }
+        };
+        (mm.into(), parts.into())
     }
 
     /// 35: effective length as a fraction of um.
@@ -356,11 +359,12 @@ impl Working<'_> {
             (Kind::A, false) | (Kind::B, true) => Kind::A,
             _ => Kind::B,
         };
-        match self.slip {
-            Some(Slip::RowBelow) => tabular(kind, self.l / 1000 * 1000),
-            Some(Slip::RowNearest) => tabular(kind, (self.l + 500) / 1000 * 1000),
-            _ => tabular(kind, self.l),
-        }
+        let length = match self.slip {
+            Some(Slip::RowBelow) => self.ship.length / 1000 * 1000,
+            Some(Slip::RowNearest) => (self.ship.length + 500) / 1000 * 1000,
+            _ => self.ship.length,
+        };
+        tabular(kind, length).into()
     }
 
     /// 29

@@ -116,7 +116,7 @@ pub fn floors(all: &mut Cases) {
     all.marks("b-floor-far-below", &RawShip { kind: 1, ..lowest });
     // S about 50, then T about 50: a deeper ship has a greater S.
     let summer = |raw: &RawShip| marks::steps(&raw.check().expect("a valid ship")).summer;
-    let first_above = |least: i128, length: u64| {
+    let first_above = |least: i64, length: u64| {
         (length / 15..).find(|&depth| summer(&low(length, depth, 8_000)) >= least).unwrap_or(0)
     };
     let at = first_above(51, 60_000);
@@ -128,7 +128,7 @@ pub fn floors(all: &mut Cases) {
         let of = |depth| low(70_000, depth, 8_000);
         let before_floor = |depth: u64| {
             let s = summer(&of(depth));
-            s - (depth as i128 - s).div_euclid(48)
+            s - (depth as i64 - s).div_euclid(48)
         };
         let depth = (4_667..).find(|&depth| before_floor(depth) >= tropical).unwrap_or(0);
         all.marks(&format!("a-t-{}-before-the-floor", before_floor(depth)), &of(depth));
@@ -178,8 +178,8 @@ pub fn summer_at_deck(all: &mut Cases) {
     // S is above L/15, so that it rises with D, though more slowly.
     let bent = |depth| RawShip { length: 100_000, depth, sheer: [-8_192; 6], ..k1() };
     let summer = |depth| marks::steps(&bent(depth).check().expect("a valid ship")).summer;
-    let above = (6_667..).find(|&depth| summer(depth) < depth.into()).unwrap_or(0);
-    assert_eq!(summer(above - 1), i128::from(above - 1));
+    let above = (6_667..).find(|&depth| summer(depth) < depth as i64).unwrap_or(0);
+    assert_eq!(summer(above - 1), above as i64 - 1);
     all.refused("b-rising-s-depth-at-s", 12, 0, &bent(above - 1));
     all.marks("b-rising-s-depth-above-s", &bent(above));
     let both = RawShip { depth: 1_000, displacement: 1_048_575, immersion: 1, ..k1() };

@@ -1,0 +1,191 @@
+//! The inputs: a record, perhaps a question on it, and a ship to be written into a buffer.
+
+use std::fmt;
+
+use twin::question;
+use twin::random::Random;
+use twin::record::{self, RawShip, Ship, MAX_HOUSES};
+
+use crate::border;
+use crate::flat::{self, SHIP};
+use crate::frame::{MEMORY, ROOM};
+
+/// How a record came about.
+#[derive(Clone, Copy)]
+pub enum Kind {
+    Valid,
+    Border,
+    Damaged,
+    Noise,
+}
+
+impl fmt::Display for Kind {
+    fn fmt(&self, f: &mut fmt::Formatter) -> fmt::Result {
+        f.write_str(match self {
+            Kind::Valid => "valid",
+            Kind::Border => "at a border",
+            Kind::Damaged => "damaged",
+            Kind::Noise => "noise",
+        })
+    }
+}
+
+pub struct Input {
+    pub kind: Kind,
+    /// The record, and any bytes after it.
+    pub record: [u8; ROOM],
+    pub record_length: usize,
+    /// Height and wish.
+    pub question: Option<(u64, u64)>,
+    /// The numbers of the ship to be written.
+    pub ship: [u64; SHIP],
+    pub buffer_length: usize,
+    /// What the buffer and its guards hold.
+    pub memory: [u8; MEMORY],
+}
+
+impl Input {
+    pub fn draw(random: &mut Random) -> Input {
+        let n = random.between(0, MAX_HOUSES as i64) as usize;
+        let raw = random.ship(n);
+        let pattern = random.number();
+        let mut input = Input {
+            kind: Kind::Valid,
+            record: filled(pattern),
+            record_length: record::record_bytes(n),
+            question: None,
+            ship: [0; SHIP],
+            buffer_length: buffer_length(random, n),
+            memory: filled(pattern.rotate_left(4)),
+        };
+        match random.between(1, 20) {
+            1..=8 => input.pack(&raw),
+            9..=13 => input.put_border(random, raw.clone()),
+            14..=18 => input.put_damaged(random, &raw),
+            _ => input.put_noise(random),
+        }
+        input.ship = stated(random, raw);
+        if random.once_in(4) {
+            input.question = Some(asked(random, input.record()));
+        }
+        input
+    }
+
+    /// The bytes of the record.
+    pub fn record(&self) -> &[u8] {
+        &self.record[..self.record_length]
+    }
+
+    fn pack(&mut self, raw: &RawShip) {
+        self.record_length = record::record_bytes(raw.n.min(MAX_HOUSES as u64) as usize);
+        record::pack(&mut self.record[..self.record_length], raw);
+    }
+
+    fn put_border(&mut self, random: &mut Random, mut raw: RawShip) {
+        self.kind = Kind::Border;
+        for _ in 0..random.between(0, 2) {
+            border::put(random, &mut raw);
+        }
+        self.pack(&raw);
+        match random.between(1, 12) {
+            1 => self.record_length = 26,
+            2 => self.record_length = 27,
+            3 => self.record_length -= 1,
+            4 => self.record_length += 1,
+            5 => self.record[0] ^= 0x10 << random.between(0, 3), // version
+            6 => self.record[1] ^= 1 << random.between(0, 5),    // spare
+            7 => self.record[self.record_length - 1] ^= 1,       // immersion, or a house's spare
+            _ => {}
+        }
+    }
+
+    fn put_damaged(&mut self, random: &mut Random, raw: &RawShip) {
+        self.kind = Kind::Damaged;
+        self.pack(raw);
+        let length = self.record_length as i64;
+        match random.between(1, 6) {
+            1 => self.record_length = random.between(0, length - 1) as usize,
+            2 => self.record_length += random.between(1, 20) as usize,
+            3 => {
+                for _ in 0..random.between(1, 4) {
+                    self.record[random.between(0, length - 1) as usize] = random.number() as u8;
+                }
+            }
+            _ => {
+                for _ in 0..random.between(1, 3) {
+                    let bit = random.between(0, 8 * length - 1) as usize;
+                    self.record[bit / 8] ^= 0x80 >> (bit % 8);
+                }
+            }
+        }
+    }
+
+    fn put_noise(&mut self, random: &mut Random) {
+        self.kind = Kind::Noise;
+        self.record_length = random.between(0, 100) as usize;
+        self.record.fill_with(|| random.number() as u8);
+        if random.once_in(2) {
+            self.record[0] = 0x10 | self.record[0] & 0x07; // version 1, a known type
+        }
+    }
+}
+
+/// The pattern over and over.
+fn filled<const N: usize>(pattern: u64) -> [u8; N] {
+    let bytes = pattern.to_le_bytes();
+    std::array::from_fn(|i| bytes[i % 8])
+}
+
+/// Any length, often about that of a record with `n` houses.
+fn buffer_length(random: &mut Random, n: usize) -> usize {
+    match random.between(1, 3) {
+        1 => record::record_bytes(n) + random.between(0, 2) as usize - 1,
+        _ => random.between(0, ROOM as i64) as usize,
+    }
+}
+
+/// The numbers of the ship: as they are, at a border, or any.
+fn stated(random: &mut Random, mut raw: RawShip) -> [u64; SHIP] {
+    let kind = random.between(1, 10);
+    if (5..=7).contains(&kind) {
+        border::put(random, &mut raw);
+    }
+    let yes = random.pick(&[1, 1, 1, 2, 256, 1 << 32, 1 << 63, u64::MAX]);
+    let mut numbers = flat::numbers(&raw, yes);
+    match kind {
+        8 | 9 => {
+            for _ in 0..random.between(1, 3) {
+                border::put_any(random, &mut numbers);
+            }
+        }
+        10 if random.once_in(4) => numbers.fill_with(|| random.number()),
+        _ => {}
+    }
+    numbers
+}
+
+/// Height and wish. A search through all lengths takes long, so that few ask for one.
+fn asked(random: &mut Random, record: &[u8]) -> (u64, u64) {
+    const NUMBERS: [u64; 8] = [0, 1, 50, 8_191, 8_192, 60_000, 60_001, u64::MAX];
+    let any = (random.pick(&NUMBERS), random.pick(&NUMBERS));
+    let height = random.between(1, 8_191) as u64;
+    let no_room = |ship: &Ship| {
+        ship.houses.len() == MAX_HOUSES || ship.houses.first().is_some_and(|first| first.aft <= 0)
+    };
+    let ship = match record::read(record) {
+        Ok(ship) if !no_room(&ship) => ship,
+        _ => return any,
+    };
+    // The mark that a poop of up to so many dm gives, if it gives any.
+    let hit = |random: &mut Random, most: i64| {
+        let mark = question::summer_with_poop(&ship, height, random.between(0, most));
+        (height, mark.map_or(u64::MAX, |mark| mark as u64))
+    };
+    match random.between(1, 100) {
+        1..=8 => (random.pick(&[1, 50, 8_191, height]), random.pick(&[50, 8_191, 8_192, 60_000])),
+        9..=30 => (random.pick(&[0, 8_192, 60_001, u64::MAX]), any.1),
+        31..=50 => (any.0, random.pick(&[0, 1, 49, 60_001, u64::MAX])),
+        51..=65 => hit(random, ship.length / 100),
+        _ => hit(random, 20),
+    }
+}

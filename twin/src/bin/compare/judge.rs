@@ -1,0 +1,104 @@
+//! What the twin answers to an input, and where an answer differs from it.
+
+use twin::record::{self, Ship};
+use twin::refusal::Refusal;
+use twin::{marks, question};
+
+use crate::flat;
+use crate::frame::{Answer, Written, GUARD};
+use crate::input::Input;
+
+/// The twin's answer.
+pub fn worked(input: &Input) -> Answer {
+    let read = record::read(input.record());
+    let ship = read.as_ref().map_err(|refusal| *refusal);
+    Answer {
+        marks: numbers(ship.and_then(marks::marks).map(|m| {
+            [m.summer, m.tropical, m.winter, m.winter_north_atlantic, m.fresh, m.tropical_fresh]
+                .map(|mm| mm as u64)
+        })),
+        read: numbers(ship.map(|ship| flat::numbers(&ship.raw(), 1))),
+        back: written_back(input, ship),
+        write: written(input),
+        poop: input.question.map_or([0; 3], |(height, wish)| {
+            let poop = question::shortest_poop(input.record(), height, wish);
+            numbers(poop.map(|decimetres| [decimetres as u64]))
+        }),
+        record: input.record,
+    }
+}
+
+/// Refusal and place, then what is given: zeros beside a refusal.
+fn numbers<const N: usize, const GIVEN: usize>(result: Result<[u64; GIVEN], Refusal>) -> [u64; N] {
+    let mut numbers = [0; N];
+    match result {
+        Ok(given) => numbers[2..].copy_from_slice(&given),
+        Err(Refusal { number, place }) => {
+            numbers[..2].copy_from_slice(&[number.into(), place as u64]);
+        }
+    }
+    numbers
+}
+
+/// A ship that was read gives its record back.
+fn written_back(input: &Input, ship: Result<&Ship, Refusal>) -> Written {
+    let mut back = Written { numbers: [0; 3], memory: input.memory };
+    if ship.is_ok() {
+        back.numbers[2] = input.record_length as u64;
+        back.memory[GUARD..][..input.record_length].copy_from_slice(input.record());
+    }
+    back
+}
+
+fn written(input: &Input) -> Written {
+    let mut memory = input.memory;
+    let buffer = &mut memory[GUARD..][..input.buffer_length];
+    let length = record::write(buffer, &flat::ship(&input.ship));
+    Written { numbers: numbers(length.map(|length| [length as u64])), memory }
+}
+
+/// The first call whose answers differ: its name, what it was given, and both answers.
+pub fn difference(input: &Input, archive: &Answer, twin: &Answer) -> Option<String> {
+    if archive == twin {
+        return None;
+    }
+    let record = format!("record {}", hex(input.record()));
+    let (height, wish) = input.question.unwrap_or_default();
+    let asked = format!("{record}\nheight {height} wish {wish}");
+    let ship = format!(
+        "ship {}\nbuffer of {} bytes in {}",
+        decimal(&input.ship),
+        input.buffer_length,
+        hex(&input.memory)
+    );
+    type Shown = fn(&Answer) -> String;
+    let calls: [(&str, &str, Shown); 6] = [
+        ("loadline_marks", &record, |a| decimal(&a.marks)),
+        ("loadline_read", &record, |a| decimal(&a.read)),
+        ("loadline_write of the ship just read", &record, |a| both(&a.back)),
+        ("loadline_write", &ship, |a| both(&a.write)),
+        ("loadline_shortest_poop", &asked, |a| decimal(&a.poop)),
+        ("the record after the calls", &record, |a| hex(&a.record)),
+    ];
+    for (call, given, shown) in calls {
+        let (archive, twin) = (shown(archive), shown(twin));
+        if archive != twin {
+            return Some(format!("{call}\n{given}\narchive {archive}\ntwin    {twin}"));
+        }
+    }
+    None
+}
+
+fn both(written: &Written) -> String {
+    format!("{} {}", decimal(&written.numbers), hex(&written.memory))
+}
+
+/// The numbers as signed ones.
+fn decimal(numbers: &[u64]) -> String {
+    let words: Vec<_> = numbers.iter().map(|&number| (number as i64).to_string()).collect();
+    words.join(" ")
+}
+
+fn hex(bytes: &[u8]) -> String {
+    bytes.iter().map(|byte| format!("{byte:02x}")).collect()
+}

@@ -1,0 +1,128 @@
+//! The archive's four calls, as include/loadline.h has them, with the unsafe part kept here.
+
+use twin::record::{House, RawShip};
+
+#[repr(C)]
+#[derive(Clone, Copy)]
+pub struct MarksAnswer {
+    pub refusal: u64,
+    pub place: u64,
+    pub s: i64,
+    pub t: i64,
+    pub w: i64,
+    pub wna: i64,
+    pub f: i64,
+    pub tf: i64,
+}
+
+#[repr(C)]
+#[derive(Clone, Copy)]
+pub struct PoopAnswer {
+    pub refusal: u64,
+    pub place: u64,
+    pub decimetres: u64,
+}
+
+#[repr(C)]
+#[derive(Clone, Copy)]
+pub struct FlatHouse {
+    pub enclosed: u64,
+    pub quarterdeck: u64,
+    pub aft: i64,
+    pub fore: i64,
+    pub height: u64,
+}
+
+#[repr(C)]
+#[derive(Clone, Copy)]
+pub struct FlatShip {
+    pub kind: u64,
+    pub n: u64,
+    pub length: u64,
+    pub depth: u64,
+    pub moulded: u64,
+    pub block: u64,
+    pub waterplane: u64,
+    pub sheer: [i64; 6],
+    pub displacement: u64,
+    pub immersion: u64,
+    pub houses: [FlatHouse; 8],
+}
+
+#[repr(C)]
+#[derive(Clone, Copy)]
+pub struct ReadAnswer {
+    pub refusal: u64,
+    pub place: u64,
+    pub ship: FlatShip,
+}
+
+#[repr(C)]
+#[derive(Clone, Copy)]
+pub struct WriteAnswer {
+    pub refusal: u64,
+    pub place: u64,
+    pub bytes: u64,
+}
+
+extern "C" {
+    fn loadline_marks(record: *const u8, length: usize) -> MarksAnswer;
+    fn loadline_shortest_poop(
+        record: *const u8,
+        length: usize,
+        height: u64,
+        wish: u64,
+    ) -> PoopAnswer;
+    fn loadline_read(record: *const u8, length: usize) -> ReadAnswer;
+    fn loadline_write(buffer: *mut u8, length: usize, ship: FlatShip) -> WriteAnswer;
+}
+
+// SAFETY of all four: the pointer and the length are those of one slice, lent for the call alone.
+// The calls take any bytes and any numbers, touch nothing beyond the slice and keep no pointer;
+// only `loadline_write` writes, and its slice is lent to be written.
+
+pub fn marks(record: &[u8]) -> MarksAnswer {
+    unsafe { loadline_marks(record.as_ptr(), record.len()) }
+}
+
+pub fn shortest_poop(record: &[u8], height: u64, wish: u64) -> PoopAnswer {
+    unsafe { loadline_shortest_poop(record.as_ptr(), record.len(), height, wish) }
+}
+
+pub fn read(record: &[u8]) -> ReadAnswer {
+    unsafe { loadline_read(record.as_ptr(), record.len()) }
+}
+
+pub fn write(buffer: &mut [u8], ship: &FlatShip) -> WriteAnswer {
+    unsafe { loadline_write(buffer.as_mut_ptr(), buffer.len(), *ship) }
+}
+
+impl From<&RawShip> for FlatShip {
+    fn from(raw: &RawShip) -> FlatShip {
+        FlatShip {
+            kind: raw.kind,
+            n: raw.n,
+            length: raw.length,
+            depth: raw.depth,
+            moulded: raw.moulded,
+            block: raw.cb,
+            waterplane: raw.cwf,
+            sheer: raw.sheer,
+            displacement: raw.displacement,
+            immersion: raw.immersion,
+            houses: raw.houses.map(FlatHouse::from),
+        }
+    }
+}
+
+impl From<House> for FlatHouse {
+    fn from(house: House) -> FlatHouse {
+        FlatHouse {
+            enclosed: house.enclosed.into(),
+            quarterdeck: house.quarterdeck.into(),
+            aft: house.aft,
+            fore: house.fore,
+            height: house.height,
+        }
+    }
+}

@@ -1,0 +1,73 @@
+//! What the calls are timed on; the same from run to run.
+
+use twin::question;
+use twin::random::Random;
+use twin::record::{self, RawShip};
+use twin::refusal::Refusal;
+
+use crate::face::FlatShip;
+
+/// A valid ship in every form that a call takes.
+pub struct Input {
+    pub raw: RawShip,
+    pub flat: FlatShip,
+    pub record: Vec<u8>,
+    /// What the question asks.
+    pub height: u64,
+    pub wish: u64,
+}
+
+const SHIPS: usize = 256;
+const SEARCHES: usize = 8;
+const HEIGHT: u64 = 2_000;
+const LEAST_WISH: u64 = 50;
+
+/// Ships of 0 to 8 houses.
+pub fn ships() -> Vec<Input> {
+    let mut random = Random::new(1966);
+    (0..SHIPS).map(|i| Input::new(random.ship(i % 9), LEAST_WISH)).collect()
+}
+
+/// Ships whose wish a poop of 1 to 10 dm meets, and none shorter.
+pub fn early_hits() -> Vec<Input> {
+    let mut random = Random::new(1988);
+    found(SHIPS, || {
+        let n = random.between(0, 7) as usize;
+        let raw = random.ship(n);
+        let ship = raw.check().ok()?;
+        let wish = question::summer_with_poop(&ship, HEIGHT, random.between(1, 10)).ok()?;
+        let input = Input::new(raw, wish as u64);
+        input.answer().is_ok_and(|k| k > 0).then_some(input)
+    })
+}
+
+/// The longest ships, whose wish no poop meets. Houses stand only in the last tenth of the length, so
+/// that there is hardly a length of poop that need not be worked.
+pub fn full_searches() -> Vec<Input> {
+    let mut random = Random::new(2003);
+    found(SEARCHES, || {
+        let n = random.between(0, 1) as usize;
+        let raw = random.ship(n);
+        let clear = raw.houses[..n].iter().all(|house| house.aft > 328_500);
+        let input = Input::new(raw, LEAST_WISH);
+        let nothing_fits = input.answer().is_err_and(|refusal| refusal.number == 16);
+        (input.raw.length == 365_000 && clear && nothing_fits).then_some(input)
+    })
+}
+
+/// The first `count` that an endless search gives.
+fn found(count: usize, search: impl FnMut() -> Option<Input>) -> Vec<Input> {
+    std::iter::repeat_with(search).flatten().take(count).collect()
+}
+
+impl Input {
+    fn new(raw: RawShip, wish: u64) -> Input {
+        let mut record = vec![0; record::record_bytes(raw.n as usize)];
+        record::pack(&mut record, &raw);
+        Input { flat: FlatShip::from(&raw), raw, record, height: HEIGHT, wish }
+    }
+
+    fn answer(&self) -> Result<i64, Refusal> {
+        question::shortest_poop(&self.record, self.height, self.wish)
+    }
+}

@@ -1,2 +1,3 @@
 pub mod Radix
-pub mod Shift
+pub mod Fill
+pub mod Joined

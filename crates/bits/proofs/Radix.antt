@@ -2,14 +2,14 @@
 use Prim.Native.Nat.{ℕ, zero, suc, _+_, _-_, _*_, _/_, _%_, _^_, _≤_, _<_}
 use mathlib.Core.List.{List, [], _∷_, _++_}
 use mathlib.Core.Path.{_≡_, refl, sym, ap, ap₂, subst, _∙_}
-use lib.ListN.{length, take, drop, replicate, getD, length-append, length-drop, replicate-append-replicate, length-replicate, take-append-drop}
+use lib.ListN.{length, take, drop, replicate, getD, length-append, replicate-append-replicate, length-replicate}
 use lib.Pow.{pow-mono, pow-add, pow-pos, mod-pow-add, high}
 use lib.Arith.{digits-lt}
 use lib.Seq.{take-suc, take-nil, getD-drop, length-take-le}
-use native.Mathlib.Nat.{lt-of-lt-of-le, mod-lt, mod-one, mod-eq-of-lt, zero-add, add-zero, add-assoc, mul-assoc, mul-add-div-right, mul-add-mod-self-right, add-mul}
+use native.Mathlib.Nat.{lt-of-lt-of-le, mod-lt, mod-one, mod-eq-of-lt, zero-add, add-assoc, mul-assoc, mul-add-div-right, mul-add-mod-self-right, add-mul}
 use native.Mathlib.Omega.{arith}
 use native.Mathlib.Numerals.{add-one}
-use Rattle.bits.specs.Fields.{total, pack, piece, unpack, Fit, Narrow, number, bytes, Bytes}
+use Rattle.bits.specs.Fields.{total, pack, piece, unpack, Fit, number, bytes, Bytes}
 
 pub piece-lt : (n a w : ℕ) → piece n a w < 2 ^ w
 unfolding piece
@@ -26,7 +26,7 @@ pack-lt [] [] f = omega arith
 pack-lt (w ∷ ws) (v ∷ vs) f = rw (pow-add 2 w (total ws)) (digits-lt (f .0) (pack-lt ws vs (f .1)))
 
 -- what stands above the fields is not seen
-unpack-high : (ws : List ℕ) (j h n : ℕ) → unpack ws (h * 2 ^ (j + total ws) + n) ≡ unpack ws n
+pub unpack-high : (ws : List ℕ) (j h n : ℕ) → unpack ws (h * 2 ^ (j + total ws) + n) ≡ unpack ws n
 unfolding pack unpack piece number bytes
 unpack-high [] j h n = refl
 unpack-high (w ∷ ws) j h n = rw (← add-assoc j w (total ws)) (ap₂ _∷_ head (unpack-high ws (j + w) h n))
@@ -84,15 +84,6 @@ pub number-more : (s : List ℕ) (i : ℕ) → i < length s → number (take (i 
 unfolding pack unpack piece number bytes
 number-more s i h = rw (add-one i, take-suc s i 0, number-append (take i s) (getD s i 0 ∷ [])) (omega arith)
 
--- the bytes but the last k
-pub number-before : (s : List ℕ) (k : ℕ) → Bytes s → number (take k s) ≡ number s / 2 ^ (8 * (length s - k))
-unfolding pack unpack piece number bytes
-number-before s k f =
-    let l : List ℕ = drop k s in
-    let lt : number l < 2 ^ (8 * length l) = number-lt l (λ i. rw (getD-drop k s i 0) (f (k + i))) in
-    let e : number s ≡ number (take k s) * 2 ^ (8 * length l) + number l = ap number (sym (take-append-drop k s)) ∙ number-append (take k s) l in
-    rw (← length-drop k s) (sym (ap (λ (n : ℕ). n / 2 ^ (8 * length l)) e ∙ high (number (take k s)) (8 * length l) lt))
-
 pub length-unpack : (ws : List ℕ) (n : ℕ) → length (unpack ws n) ≡ length ws
 unfolding pack unpack piece number bytes
 length-unpack [] n = refl
@@ -125,26 +116,10 @@ written-read ws k e s f l =
 
 -- fields, one by one
 
-pub fit-many : (ws vs : List ℕ) → Fit ws vs → length vs ≡ length ws
-fit-many [] [] f = refl
-fit-many (w ∷ ws) (v ∷ vs) f = ap suc (fit-many ws vs (f .1))
-
 pub fit-each : (ws vs : List ℕ) → Fit ws vs → (i : ℕ) → getD vs i 0 < 2 ^ getD ws i 0
 fit-each [] [] f i = omega arith
 fit-each (w ∷ ws) (v ∷ vs) f zero = f .0
 fit-each (w ∷ ws) (v ∷ vs) f (suc i) = fit-each ws vs (f .1) i
-
-pub narrow-each : (ws : List ℕ) → Narrow ws → (i : ℕ) → getD ws i 0 ≤ 24
-narrow-each [] f i = omega arith
-narrow-each (w ∷ ws) f zero = f .0
-narrow-each (w ∷ ws) f (suc i) = narrow-each ws (f .1) i
-
-pub fit-of : (ws vs : List ℕ) → length vs ≡ length ws → ((i : ℕ) → getD vs i 0 < 2 ^ getD ws i 0) → Fit ws vs
-unfolding pack unpack piece number bytes
-fit-of [] [] e f = tt
-fit-of [] (v ∷ vs) e f = absurd (omega arith)
-fit-of (w ∷ ws) [] e f = absurd (omega arith)
-fit-of (w ∷ ws) (v ∷ vs) e f = (f 0, fit-of ws vs (omega arith) (λ i. f (suc i)))
 
 pub total-more : (ws : List ℕ) (i : ℕ) → i < length ws → total (take (i + 1) ws) ≡ total (take i ws) + getD ws i 0
 unfolding pack unpack piece number bytes
@@ -156,33 +131,6 @@ total-up [] i = omega (arith, ap total (take-nil i))
 total-up (w ∷ ws) zero = omega arith
 total-up (w ∷ ws) (suc i) = omega (arith, total-up ws i)
 
-pub total-inside : (ws : List ℕ) (i : ℕ) → total (take i ws) < total ws → i < length ws
-unfolding pack unpack piece number bytes
-total-inside [] i h = absurd (omega (arith, ap total (take-nil i)))
-total-inside (w ∷ ws) zero h = omega arith
-total-inside (w ∷ ws) (suc i) h = omega (arith, total-inside ws i (omega arith))
-
-pub pack-more : (ws vs : List ℕ) (i : ℕ) → length vs ≡ length ws → i < length ws
-    → pack (take (i + 1) ws) (take (i + 1) vs) ≡ pack (take i ws) (take i vs) * 2 ^ getD ws i 0 + getD vs i 0
-unfolding pack unpack piece number bytes
-pack-more ws vs i e h =
-    let h′ : i < length vs = omega arith in
-    let l : length (take i ws) ≡ length (take i vs) = rw (length-take-le i ws (omega arith), length-take-le i vs (omega arith)) refl in
-    rw (add-one i, take-suc ws i 0 h, take-suc vs i 0 h′, pack-append (take i ws) (getD ws i 0 ∷ []) (take i vs) (getD vs i 0 ∷ []) l, add-zero (getD ws i 0)) (omega arith)
-
--- the fields before the i-th: the number, without the bits of the others
-pub pack-before : (ws vs : List ℕ) (i : ℕ) → length vs ≡ length ws → ((i : ℕ) → getD vs i 0 < 2 ^ getD ws i 0) → i ≤ length ws
-    → pack (take i ws) (take i vs) ≡ pack ws vs / 2 ^ (total ws - total (take i ws))
-unfolding pack unpack piece number bytes
-pack-before ws vs i e f h =
-    let us : List ℕ = drop i ws in
-    let xs : List ℕ = drop i vs in
-    let lt : pack us xs < 2 ^ total us = pack-lt us xs (fit-of us xs (rw (length-drop i ws, length-drop i vs, e) refl) (λ j. rw (getD-drop i ws j 0, getD-drop i vs j 0) (f (i + j)))) in
-    let l : length (take i ws) ≡ length (take i vs) = rw (length-take-le i ws h, length-take-le i vs (omega arith)) refl in
-    let p : pack ws vs ≡ pack (take i ws) (take i vs) * 2 ^ total us + pack us xs = ap₂ pack (sym (take-append-drop i ws)) (sym (take-append-drop i vs)) ∙ pack-append (take i ws) us (take i vs) xs l in
-    let t : total us ≡ total ws - total (take i ws) = omega (arith, total-append (take i ws) us, ap total (take-append-drop i ws)) in
-    rw (← t) (sym (ap (λ (n : ℕ). n / 2 ^ total us) p ∙ high (pack (take i ws) (take i vs)) (total us) lt))
-
 -- the j-th of k bytes
 pub getD-bytes : (k n j : ℕ) → j < k → getD (bytes k n) j 0 ≡ piece n (8 * k - 8 * (j + 1)) 8
 unfolding pack unpack piece number bytes
@@ -193,21 +141,6 @@ getD-bytes (suc k) n zero h =
 getD-bytes (suc k) n (suc j) h =
     let e : 8 * k - 8 * (j + 1) ≡ 8 * suc k - 8 * (suc j + 1) = omega arith in
     rw (← e) (getD-bytes k n j (omega arith))
-
--- the i-th field
-pub getD-unpack : (ws : List ℕ) (n i : ℕ) → i < length ws → getD (unpack ws n) i 0 ≡ piece n (total ws - total (take (i + 1) ws)) (getD ws i 0)
-unfolding unpack
-getD-unpack [] n i h = absurd (omega arith)
-getD-unpack (w ∷ ws) n zero h =
-    let e : total ws ≡ total (w ∷ ws) - total (take (0 + 1) (w ∷ ws)) = omega arith in
-    rw (← e) refl
-getD-unpack (w ∷ ws) n (suc i) h =
-    let e : total ws - total (take (i + 1) ws) ≡ total (w ∷ ws) - total (take (suc i + 1) (w ∷ ws)) =
-    omega (arith, ap (λ (k : ℕ). total (take k (w ∷ ws))) (suc-add-one i)) in
-    rw (← e) (getD-unpack ws n i (omega arith))
-  where
-    suc-add-one : (i : ℕ) → suc i + 1 ≡ suc (i + 1)
-    suc-add-one i = omega arith
 
 pub bytes-take : (k : ℕ) (s : List ℕ) → Bytes s → Bytes (take k s)
 bytes-take zero s b i = omega arith

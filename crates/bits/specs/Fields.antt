@@ -1,9 +1,8 @@
 -- Fields side by side in one number, the first highest: `pack` joins values of given widths in bits, `unpack` takes them apart.
 -- Bytes are fields of eight bits, so one theory serves both.
-use Prim.Native.Nat.{ℕ, _+_, _*_, _/_, _%_, _^_, _≤_, _<_}
+use Prim.Native.Nat.{ℕ, _+_, _*_, _/_, _%_, _^_, _<_}
 use mathlib.Core.List.{List, [], _∷_}
-use lib.ListN.{length, replicate, getD, take}
-use mathlib.Core.Path.{_≡_}
+use lib.ListN.{length, replicate, getD}
 
 -- the bits of all the fields
 abbrev pub total : List ℕ → ℕ
@@ -32,11 +31,6 @@ Fit [] (v ∷ vs) = ⊥
 Fit (w ∷ ws) [] = ⊥
 Fit (w ∷ ws) (v ∷ vs) = (v < 2 ^ w) × Fit ws vs
 
--- no width above 24, so that a field and the bits before it in its first byte stand in four bytes
-abbrev pub Narrow : List ℕ → Type 0
-Narrow [] = Unit {0}
-Narrow (w ∷ ws) = (w ≤ 24) × Narrow ws
-
 -- the number that bytes are, the first highest
 unfoldable pub number : List ℕ → ℕ
 number s = pack (replicate (length s) 8) s
@@ -48,9 +42,3 @@ bytes k n = unpack (replicate k 8) n
 -- bytes, each below 256
 abbrev pub Bytes : List ℕ → Type 0
 Bytes s = (i : ℕ) → getD s i 0 < 256
-
--- the first `next` fields gathered: how many bits they are, and the last 40 of these
-pub record Gathered (ws vs : List ℕ) (acc seen next : ℕ) : Type 0 where
-  pub inside : next ≤ length ws
-  pub bits : seen ≡ total (take next ws)
-  pub low : acc ≡ pack (take next ws) (take next vs) % 2 ^ 40

@@ -1,7 +1,7 @@
 // Bow height (regulation 39): the freeboard that it asks for.
 ghost use mathlib.Core.Path.{_≡_};
-ghost use Prim.Native.Nat.{_+_, _*_, _^_, _≤_, _<_};
-ghost use Rattle.bow.specs.Bow.{cubic, rises, falls, higher, lower, sheerTaken, forecastleTaken, bowFreeboard};
+ghost use Prim.Native.Nat.{_+_, _-_, _*_, _^_, _≤_, _<_};
+ghost use Rattle.bow.specs.Bow.{cubic, rises, falls, higher, lower, sheerTaken, forecastleTaken};
 use units::Freeboard;
 use units::Span;
 
@@ -86,27 +86,34 @@ fn forecastle_taken(l: Span, length: Span, height: Span) -> Freeboard
     Freeboard(0)
 }
 
-// The whole step, on L, M, Cb and Cwf in ten thousandths, the ordinates at L/6 from FP and at FP, lifted by 8192 mm, and the
-// forecastle's length and height, both 0 where there is none.
-pub fn freeboard(
-    l: Span,
-    m: Span,
-    cb: u64,
-    cwf: u64,
-    sixth: u64,
-    fp: u64,
-    length: Span,
-    height: Span,
-) -> Freeboard
-    requires { ⌜ (l .0 ≤ 365000) × (1000 ≤ m .0) × (m .0 ≤ 60000) × (cwf ≤ 10000) ⌝ }
-    requires { ⌜ (fp < 16384) × (length .0 ≤ 365000) × (height .0 ≤ 8191) ⌝ }
-    ensures { λ r. ⌜ r .0 ≡ bowFreeboard (l .0) (m .0) cb cwf sixth fp (length .0) (height .0) ⌝ }
-    ensures { λ r. ⌜ r .0 ≤ 2 ^ 49 ⌝ }
+// The height that the bow must have, and what it has of it without a forecastle: both with the sheer's lift, which no house changes.
+pub struct Height {
+    pub above: Freeboard,
+    pub below: Freeboard,
+}
+
+// 39(1), and 39(2)'s sheer: on L, M, Cb and Cwf in ten thousandths, and the ordinates at L/6 from FP and at FP, lifted by 8192 mm.
+pub fn asked(l: Span, m: Span, cb: u64, cwf: u64, sixth: u64, fp: u64) -> Height
+    requires { ⌜ (l .0 ≤ 365000) × (1000 ≤ m .0) × (m .0 ≤ 60000) × (cwf ≤ 10000) × (fp < 16384) ⌝ }
+    ensures { λ r. ⌜ (r .above .0 ≡ higher (l .0) (m .0) cb cwf + sheerTaken sixth 8192) × (r .below .0 ≡ lower (l .0) (m .0) cb cwf + sheerTaken sixth fp) ⌝ }
+    ensures { λ r. ⌜ (r .above .0 ≤ 2 ^ 49) × (r .below .0 ≤ 2 ^ 49) ⌝ }
 {
     let above = up(l, m, cb, cwf);
     let back = sheer_taken(sixth, 8192);
     let below = down(l, m, cb, cwf);
     let sheer = sheer_taken(sixth, fp);
-    let forecastle = forecastle_taken(l, length, height);
-    Freeboard(whole::less(above.0 + back.0, below.0 + (sheer.0 + forecastle.0)))
+    Height {
+        above: Freeboard(above.0 + back.0),
+        below: Freeboard(below.0 + sheer.0),
+    }
+}
+
+// 39(2)'s forecastle, of the given length and height, both 0 where there is none: the freeboard that is left to ask for.
+pub fn freeboard(h: Height, l: Span, length: Span, height: Span) -> Freeboard
+    requires { ⌜ (h .above .0 ≤ 2 ^ 49) × (h .below .0 ≤ 2 ^ 49) × (l .0 ≤ 365000) × (length .0 ≤ 365000) × (height .0 ≤ 8191) ⌝ }
+    ensures { λ r. ⌜ r .0 ≡ h .above .0 - (h .below .0 + forecastleTaken (l .0) (length .0) (height .0)) ⌝ }
+    ensures { λ r. ⌜ r .0 ≤ 2 ^ 49 ⌝ }
+{
+    let taken = forecastle_taken(l, length, height);
+    Freeboard(whole::less(h.above.0, h.below.0 + taken.0))
 }

@@ -2,11 +2,11 @@
 use Prim.Native.Nat.{ℕ, suc, _+_, _-_, _<_}
 use mathlib.Core.Bool.{Bool, true, false, not}
 use mathlib.Core.List.{List, [], _∷_, map}
-use mathlib.Core.Path.{_≡_, refl, ap, ap₂, _∙_}
+use mathlib.Core.Path.{_≡_, refl, ap, ap₂}
 use native.Mathlib.Omega.{arith}
 use native.Mathlib.Decide.{decLt}
 use borrow.Author.Tests.{lt-ltb, le-ltb}
-use lib.Dec.{eqb, ltb}
+use lib.Dec.{eqb}
 use lib.IntN.{ℤ, pos, negsuc}
 use Rattle.whole.specs.Pick.{pick}
 use Rattle.units.specs.Datum.{datum, mmOf}
@@ -16,7 +16,6 @@ use Rattle.ship.specs.declared.Ship.{Ship}
 use Rattle.ship.specs.Vessel.{lift}
 use Rattle.ship.specs.Good.{GoodHouse}
 use Rattle.face.specs.declared.flat.FlatHouse.{FlatHouse}
-use Rattle.face.specs.declared.flat.FlatShip.{FlatShip}
 use Rattle.face.specs.Flat.{ordinateOf, houseOf, shipOf, stationAt, loweredBy, ordinateAt, houseFrom, shipFrom}
 
 -- ---- there and back

@@ -1,13 +1,12 @@
 -- Every number of an answer has room in a signed one, and the length of a written record is one of nine.
-use Prim.Native.Nat.{ℕ, zero, suc, _+_, _-_, _*_, _^_, _≤_, _<_}
+use Prim.Native.Nat.{ℕ, zero, suc, _+_, _-_, _^_, _≤_, _<_}
 use mathlib.Core.Path.{_≡_, sym, ap, _∙_, subst}
 use mathlib.Core.List.{List, [], _∷_, _++_}
 use native.Mathlib.Omega.{arith}
-use lib.Dec.{eqb, ltb, leb}
+use lib.Dec.{eqb, leb}
 use lib.ListN.{drop, take, getD, replicate}
 use borrow.Author.Tests.{ltb-false, leb-false}
 use Rattle.whole.specs.Pick.{pick}
-use Rattle.whole.specs.Divide.{ceilDiv}
 use Rattle.whole.proofs.Pick.{by-cases}
 use Rattle.whole.proofs.Divide.{ceil-lt}
 use Rattle.ship.specs.declared.House.{House}
@@ -17,8 +16,8 @@ use Rattle.ship.specs.Refusals.{Paper, accepted, first}
 use Rattle.ship.specs.Checks.{shipLines}
 use Rattle.ship.proofs.Lines.{all-pass, all-pass-split, first-passed}
 use Rattle.ship.proofs.Accepted.{good}
-use Rattle.record.specs.Layout.{houseIn, housesIn, placesIn, headIn, shipIn, turn14}
-use Rattle.record.specs.Reading.{frameLines, readingIn, readingOf}
+use Rattle.record.specs.Layout.{houseIn, housesIn, placesIn, shipIn}
+use Rattle.record.specs.Reading.{frameLines, readingIn}
 use Rattle.record.specs.Writing.{writeLines, writingOf}
 use Rattle.mark.specs.declared.Marks.{Marks}
 use Rattle.mark.specs.Others.{tropical, winter, atlantic, sixMarks}

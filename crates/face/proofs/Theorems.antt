@@ -6,11 +6,11 @@ use native.Mathlib.Omega.{arith}
 use lib.ListN.{length, drop}
 use Rattle.bits.specs.Fields.{Bytes}
 use Rattle.ship.specs.declared.Ship.{Ship}
-use Rattle.ship.specs.Refusals.{Paper, accepted, first}
+use Rattle.ship.specs.Refusals.{accepted}
 use Rattle.ship.specs.Checks.{shipLines}
 use Rattle.ship.proofs.Lines.{all-pass, first-passed}
 use Rattle.record.specs.Layout.{shipIn}
-use Rattle.record.specs.Reading.{Reading, frameLines, readingIn}
+use Rattle.record.specs.Reading.{frameLines, readingIn}
 use Rattle.record.specs.Writing.{writingOf, written}
 use Rattle.roundtrip.proofs.Theorems.{write-what-was-read}
 use Rattle.marks.specs.Marks.{sheetIn}

@@ -1,5 +1,5 @@
 -- The answers of the calls for C: 01's numbers laid out flat. Refusal 0 refuses nothing; beside any other all else is zero.
-use Prim.Native.Nat.{ℕ, _+_, _*_, _^_, _<_}
+use Prim.Native.Nat.{_+_, _*_, _^_, _<_}
 use mathlib.Core.Path.{_≡_}
 use lib.Dec.{eqb}
 use lib.IntN.{pos, natAbs}

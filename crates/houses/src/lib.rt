@@ -7,7 +7,7 @@ ghost use Rattle.ship.specs.Good.{GoodHouse, GoodHouses};
 ghost use Rattle.houses.specs.Length.{partOf, total, coveredLength};
 ghost use Rattle.houses.specs.Height.{Sized, ordinaryHeight, raisedHeight, standardHeight};
 ghost use Rattle.houses.specs.Effective.{limitedLength, effectiveOf, effectiveLength};
-ghost use Rattle.houses.specs.Forecastle.{forecastleOf};
+ghost use Rattle.houses.specs.Forecastle.{isForecastle, forecastleOf};
 ghost use Rattle.houses.specs.Cover.{reachOf, reach};
 ghost use Rattle.houses.specs.Amount.{amountOf};
 use ship::House;
@@ -130,7 +130,7 @@ pub fn effective_of(l: Span, h: House) -> Effective
 }
 
 // 38: a house's reach before and abaft amidships, in tenths of a mm.
-fn reach_of(l: Span, h: House) -> u64
+pub fn reach_of(l: Span, h: House) -> u64
     requires { ⌜ (l .0 ≤ 365000) × GoodHouse (l .0) h ⌝ }
     ensures { λ r. ⌜ r ≡ reachOf (l .0) h ⌝ }
     ensures { λ r. ⌜ r ≤ 2 * l .0 ⌝ }
@@ -204,6 +204,14 @@ pub fn cover(l: Span, houses: [House; 8], n: usize) -> u64
     ensures { λ r. ⌜ r ≤ 2 * l .0 ⌝ }
 {
     sum(Measure::Reach, l, houses, n)
+}
+
+// Whether a house is the forecastle: enclosed, and its fore end at or beyond L.
+pub fn is_forecastle(l: Span, h: House) -> bool
+    requires { ⌜ l .0 ≤ 365000 ⌝ }
+    ensures { λ r. ⌜ r ≡ isForecastle (l .0) h ⌝ }
+{
+    h.enclosed & (AP + l.0 <= h.fore.0)
 }
 
 // The forecastle, or an empty house where there is none.

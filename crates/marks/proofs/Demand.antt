@@ -10,7 +10,6 @@ use Rattle.whole.specs.Pick.{pick}
 use Rattle.whole.specs.Frac.{whole}
 use Rattle.whole.specs.Round.{Below}
 use Rattle.whole.proofs.Round.{loosen}
-use Rattle.tables.specs.Table37.{ordinaryRow}
 use Rattle.tables.proofs.Percentages.{ordinary-row}
 use Rattle.ship.specs.declared.Ship.{Ship}
 use Rattle.ship.specs.Vessel.{housesOf}
@@ -25,7 +24,6 @@ use Rattle.houses.specs.Length.{partOf}
 use Rattle.houses.specs.Effective.{effectiveOf, exactEffective}
 use Rattle.houses.proofs.Rounded.{effective-length-short, effective-test}
 use Rattle.houses.proofs.Midship.{reach-most}
-use Rattle.corrections.specs.Gathered as Before
 use Rattle.corrections.proofs.Gathered.{added-within, deducted-below}
 use Rattle.sheer.proofs.Bound.{sheer-within}
 use Rattle.bow.proofs.Bound.{bow-within}

@@ -1,3 +1,4 @@
+pub mod Parts
 pub mod Sheet
 pub mod Demand
 pub mod OneToOne

@@ -3,8 +3,7 @@ use mathlib.Core.List.{List}
 use mathlib.Core.Path.{_≡_, sym, ap, _∙_}
 use Prim.Native.Nat.{ℕ}
 use native.Mathlib.Omega.{arith}
-use Rattle.ship.specs.declared.refusal.Verdict.{Verdict}
-use Rattle.ship.specs.declared.refusal.Verdict.the-variants.{Accepted, Refused}
+use Rattle.ship.specs.declared.refusal.Verdict.the-variants.{Refused}
 use Rattle.ship.specs.Refusals.{numberOf}
 use Rattle.ship.proofs.OneToOne.{one-verdict, number-above-0}
 use Rattle.marks.specs.declared.Answer.{Answer}

@@ -1,3 +1,4 @@
 pub mod Steps
+pub mod Parts
 pub mod Marks
 pub mod Exact

@@ -1,18 +1,20 @@
-// The steps to the summer mark, put together for a ship.
+// The steps to the summer mark, put together for a ship: what its hull asks for, what the houses on its deck give, and the mark of the two.
 ghost use mathlib.Core.Path.{_≡_};
 ghost use Prim.Native.Nat.{_+_, _*_, _≤_, _^_};
-ghost use lib.ListN.{getD};
+ghost use lib.ListN.{take};
+ghost use Rattle.whole.specs.Pick.{pick};
 ghost use Rattle.tables.specs.Table37.{ordinaryRow};
-ghost use Rattle.houses.specs.Length.{partOf};
-ghost use Rattle.houses.specs.Effective.{effectiveOf};
+ghost use Rattle.ship.specs.Good.{GoodHouse, GoodHouses};
 ghost use Rattle.corrections.specs.Deduction37.{deduction};
-ghost use Rattle.corrections.specs.Gathered.{added, deducted};
-ghost use Rattle.sheer.specs.Sheer as Sheer;
-ghost use Rattle.bow.specs.Bow.{bowFreeboard};
-ghost use Rattle.marks.specs.Steps.{Sound, typeB, coveredS, effectiveE, forecastleHouse, coverReach, tableLine, summerOf};
+ghost use Rattle.corrections.specs.Short29.{shortB};
+ghost use Rattle.corrections.specs.Fullness30.{fullness};
+ghost use Rattle.marks.specs.Steps.{Sound, tableLine, summerOf};
+ghost use Rattle.marks.specs.Parts.{hullOf, deckOf, deckWith, summerOn, FairHull, FairDeck};
+use bow::Height;
 use corrections::before_sheer;
 use corrections::deduction;
-use sheer::Correction;
+use corrections::depth;
+use sheer::Mean;
 use ship::House;
 use ship::Ship;
 use tables::table28;
@@ -21,32 +23,25 @@ use units::Effective;
 use units::Freeboard;
 use units::Span;
 
-// What the houses give: S, E, the cover's reach in tenths of a millimetre, and the forecastle.
-struct Deck {
-    s: Span,
-    e: Effective,
-    reach: u64,
-    forecastle: House,
+// What no house changes: 28's line, 31's addition, 38's mean, and 39's height without the forecastle.
+pub struct Hull {
+    pub b: bool,
+    pub length: Span,
+    pub block: u64,
+    pub table: Freeboard,
+    pub deep: Freeboard,
+    pub mean: Mean,
+    pub bow: Height,
 }
 
-fn on_deck(x: Ship) -> Deck
-    requires { ⌜ Sound x ⌝ }
-    ensures { λ r. ⌜ (r .s .0 ≡ coveredS x) × (r .e .0 ≡ effectiveE x) × (r .reach ≡ coverReach x) × (r .forecastle ≡ forecastleHouse x) ⌝ }
-    ensures { λ r. ⌜ (r .s .0 ≤ x .length .0) × (r .e .0 ≤ 1000 * x .length .0) × (r .reach ≤ 2 * x .length .0) × (r .forecastle .height .0 ≤ 8191) ⌝ }
-{
-    let l = x.length;
-    let n = x.n;
-    let hs = x.houses;
-    let s = houses::covered(l, hs, n);
-    let e = houses::effective(l, hs, n);
-    let reach = houses::cover(l, hs, n);
-    let forecastle = houses::forecastle(l, hs, n);
-    Deck {
-        s,
-        e,
-        reach,
-        forecastle,
-    }
+// What the houses give: S, E, the cover's reach in tenths of a millimetre, and of the forecastle the effective length, l and the height.
+pub struct Deck {
+    pub s: Span,
+    pub e: Effective,
+    pub reach: u64,
+    pub forecastle: Effective,
+    pub part: Span,
+    pub height: Span,
 }
 
 // Regulation 28's line for the ship's type.
@@ -61,6 +56,88 @@ fn table_line(b: bool, l: Span) -> Freeboard
     table28::tabular_a(l)
 }
 
+pub fn hull_of(x: Ship) -> Hull
+    requires { ⌜ Sound x ⌝ }
+    ensures { λ r. ⌜ r ≡ hullOf x ⌝ }
+    ensures { λ r. ⌜ FairHull r ⌝ }
+{
+    let b = x.kind == 1;
+    let length = x.length;
+    let d = x.depth;
+    let m = x.moulded;
+    let o = x.sheer;
+    let table = table_line(b, length);
+    let deep = depth::addition(length, d);
+    let mean = sheer::mean_sheer(length, o);
+    let bow = bow::asked(length, m, x.block, x.waterplane, o[4], o[5]);
+    Hull {
+        b,
+        length,
+        block: x.block,
+        table,
+        deep,
+        mean,
+        bow,
+    }
+}
+
+// The deck of the first `n` houses.
+pub fn deck_of(l: Span, hs: [House; 8], n: usize) -> Deck
+    requires { ⌜ (l .0 ≤ 365000) × (n ≤ 8) × GoodHouses (l .0) (take n hs) ⌝ }
+    ensures { λ r. ⌜ r ≡ deckOf (l .0) (take n hs) ⌝ }
+    ensures { λ r. ⌜ FairDeck (l .0) r ⌝ }
+{
+    let s = houses::covered(l, hs, n);
+    let e = houses::effective(l, hs, n);
+    let reach = houses::cover(l, hs, n);
+    let first = houses::forecastle(l, hs, n);
+    let forecastle = houses::effective_of(l, first);
+    let part = houses::part(l, first);
+    let height = first.height;
+    Deck {
+        s,
+        e,
+        reach,
+        forecastle,
+        part,
+        height,
+    }
+}
+
+// A deck with one more house before the others.
+pub fn with_house(l: Span, h: House, d: Deck) -> Deck
+    requires { ⌜ (l .0 ≤ 365000) × GoodHouse (l .0) h × FairDeck (l .0) d ⌝ }
+    ensures { λ r. ⌜ r ≡ deckWith (l .0) h d ⌝ }
+{
+    let length = houses::part(l, h);
+    let effective = houses::effective_of(l, h);
+    let reach = houses::reach_of(l, h) + d.reach;
+    let s = Span(length.0 + d.s.0);
+    let e = Effective(effective.0 + d.e.0);
+    if houses::is_forecastle(l, h) {
+        let height = h.height;
+        return Deck {
+            s,
+            e,
+            reach,
+            forecastle: effective,
+            part: length,
+            height,
+        };
+    }
+    let forecastle = d.forecastle;
+    let part = d.part;
+    let height = d.height;
+    Deck {
+        s,
+        e,
+        reach,
+        forecastle,
+        part,
+        height,
+    }
+}
+
 // Regulation 37 by the ordinary row of percentages.
 fn ordinary_deduction(l: Span, e: Effective) -> Freeboard
     requires { ⌜ (24000 ≤ l .0) × (l .0 ≤ 365000) × (e .0 ≤ 1000 * l .0) ⌝ }
@@ -73,57 +150,6 @@ fn ordinary_deduction(l: Span, e: Effective) -> Freeboard
     deduction::of_full(l, deduction::share(p, q, l, e))
 }
 
-// What is added before sheer: the table with regulations 29, 30 and 31.
-fn added_before(x: Ship, e: Effective) -> Freeboard
-    requires { ⌜ Sound x ⌝ }
-    ensures { λ r. ⌜ r .0 ≡ added (tableLine (typeB x) (x .length .0)) (typeB x) (x .length .0) (x .depth .0) (x .block) (e .0) ⌝ }
-    ensures { λ r. ⌜ r .0 ≤ 2 ^ 25 ⌝ }
-{
-    let b = x.kind == 1;
-    let l = x.length;
-    let depth = x.depth;
-    before_sheer::all_added(table_line(b, l), b, l, depth, x.block, e)
-}
-
-// What is deducted before sheer: regulation 37.
-fn deducted_before(x: Ship, e: Effective, forecastle: House) -> Freeboard
-    requires { ⌜ Sound x × (e .0 ≤ 1000 * x .length .0) × (forecastle .height .0 ≤ 8191) ⌝ }
-    ensures { λ r. ⌜ r .0 ≡ deducted (typeB x) ordinaryRow (effectiveOf (x .length .0) forecastle) (x .length .0) (e .0) ⌝ }
-    ensures { λ r. ⌜ r .0 ≤ 1070000 ⌝ }
-{
-    let b = x.kind == 1;
-    let l = x.length;
-    let f = houses::effective_of(l, forecastle);
-    deduction::if_granted(b, f, l, ordinary_deduction(l, e))
-}
-
-// Regulation 39.
-fn bow_of(x: Ship, forecastle: House) -> Freeboard
-    requires { ⌜ Sound x × (forecastle .height .0 ≤ 8191) ⌝ }
-    ensures { λ r. ⌜ r .0 ≡ bowFreeboard (x .length .0) (x .moulded .0) (x .block) (x .waterplane) (getD (x .sheer) 4 0) (getD (x .sheer) 5 0) (partOf (x .length .0) forecastle) (forecastle .height .0) ⌝ }
-    ensures { λ r. ⌜ r .0 ≤ 2 ^ 49 ⌝ }
-{
-    let l = x.length;
-    let m = x.moulded;
-    let o = x.sheer;
-    let sixth = o[4];
-    let fp = o[5];
-    let part = houses::part(l, forecastle);
-    let height = forecastle.height;
-    bow::freeboard(l, m, x.block, x.waterplane, sixth, fp, part, height)
-}
-
-// Regulation 38.
-fn sheer_of(x: Ship, s: Span, reach: u64) -> Correction
-    requires { ⌜ Sound x × (s .0 ≤ x .length .0) × (reach ≤ 2 * x .length .0) ⌝ }
-    ensures { λ r. ⌜ (r .added .0 ≡ Sheer.added (x .sheer) (x .length .0) (s .0)) × (r .deducted .0 ≡ Sheer.deducted (x .sheer) (x .length .0) (s .0) reach) ⌝ }
-    ensures { λ r. ⌜ (r .added .0 ≤ 9000000) × (r .deducted .0 ≤ 456250) ⌝ }
-{
-    let l = x.length;
-    let o = x.sheer;
-    sheer::correct(l, o, s, reach)
-}
-
 // The sum of two freeboards.
 fn plus(a: Freeboard, b: Freeboard) -> Freeboard
     requires { ⌜ (a .0 ≤ 2 ^ 32) × (b .0 ≤ 2 ^ 32) ⌝ }
@@ -134,19 +160,47 @@ fn plus(a: Freeboard, b: Freeboard) -> Freeboard
     Freeboard(m + n)
 }
 
+// What is added: the table with 29 and 30, then 31, then 38 where sheer is lacking.
+fn added(h: Hull, d: Deck, lacking: Freeboard) -> Freeboard
+    requires { ⌜ FairHull h × (lacking .0 ≤ 9000000) ⌝ }
+    ensures { λ r. ⌜ r .0 ≡ (fullness (h .block) (h .table .0 + pick (h .b) (shortB (h .length .0) (d .e .0)) 0) + h .deep .0) + lacking .0 ⌝ }
+    ensures { λ r. ⌜ r .0 ≤ 2 ^ 32 ⌝ }
+{
+    let table = h.table;
+    let l = h.length;
+    let e = d.e;
+    let deep = h.deep;
+    plus(
+        plus(before_sheer::made_full(table, h.b, l, h.block, e), deep),
+        lacking,
+    )
+}
+
+// The summer mark of a hull and a deck, in millimetres.
+pub fn summer_on(h: Hull, d: Deck) -> u64
+    requires { ⌜ FairHull h × FairDeck (h .length .0) d ⌝ }
+    ensures { λ r. ⌜ r ≡ summerOn h d ⌝ }
+{
+    let l = h.length;
+    let s = d.s;
+    let e = d.e;
+    let c = sheer::correct(h.mean, l, s, d.reach);
+    let more = c.added;
+    let less = c.deducted;
+    let gained = added(h, d, more);
+    let granted = deduction::if_granted(h.b, d.forecastle, l, ordinary_deduction(l, e));
+    let lost = plus(granted, less);
+    let bow = bow::freeboard(h.bow, l, d.part, d.height);
+    mark::summer(50, gained, lost, bow)
+}
+
 // The summer mark, in millimetres.
 pub fn summer(x: Ship) -> u64
     requires { ⌜ Sound x ⌝ }
     ensures { λ r. ⌜ r ≡ summerOf x ⌝ }
 {
-    let d = on_deck(x);
-    let s = d.s;
-    let e = d.e;
-    let f = d.forecastle;
-    let c = sheer_of(x, s, d.reach);
-    let more = c.added;
-    let less = c.deducted;
-    let added = plus(added_before(x, e), more);
-    let taken = plus(deducted_before(x, e, f), less);
-    mark::summer(50, added, taken, bow_of(x, f))
+    let l = x.length;
+    let hs = x.houses;
+    let d = deck_of(l, hs, x.n);
+    summer_on(hull_of(x), d)
 }

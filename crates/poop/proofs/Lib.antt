@@ -1,5 +1,5 @@
 pub mod Search
-pub mod Tried
-pub mod Seven
+pub mod Passing
+pub mod Standing
 pub mod Replies
 pub mod Theorems

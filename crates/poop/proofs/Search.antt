@@ -1,7 +1,7 @@
 -- The search: its turns, and that it gives the shortest length that fits; the facts that say so leave one answer.
-use Prim.Native.Nat.{ℕ, zero, suc, _+_, _-_, _/_, _≤_, _<_}
+use Prim.Native.Nat.{ℕ, zero, suc, _+_, _-_, _*_, _/_, _≤_, _<_}
 use mathlib.Core.Bool.{Bool, true, false, true≢false}
-use mathlib.Core.Path.{_≡_, refl, sym, ap, _∙_}
+use mathlib.Core.Path.{_≡_, refl, sym, ap, ap₂, _∙_}
 use native.Mathlib.Decide.{decLt}
 use native.Mathlib.Omega.{arith}
 use Rattle.ship.specs.declared.Ship.{Ship}
@@ -54,6 +54,13 @@ module _ (fits : ℕ → Bool) where
   one-shortest L a b (fitting j i e f) (none g) = absurd (true≢false (sym e ∙ g j i))
   one-shortest L a b (none f) (fitting k l d g) = absurd (true≢false (sym d ∙ f k l))
   one-shortest L a b (none f) (none g) = refl
+
+-- two tests that agree on every length have one answer
+pub same-search : (f g : ℕ → Bool) (L m k : ℕ) → k + m ≤ L / 100 + 1 → ((j : ℕ) → 100 * j ≤ L → f j ≡ g j) → shortestFrom f m k ≡ shortestFrom g m k
+unfolding shortestFrom
+same-search f g L zero k h e = refl
+same-search f g L (suc m) k h e =
+    ap₂ (λ (b : Bool) (r : Reply). elim b [ true ↦ given k | false ↦ r ]) (e k (omega arith)) (same-search f g L m (k + 1) (omega arith) e)
 
 -- ---- the definition gives the shortest, and nothing else is the shortest
 module _ (x : Ship) (height wish : ℕ) where

@@ -1,2 +1,3 @@
 pub mod Poop
+pub mod Standing
 pub mod Question

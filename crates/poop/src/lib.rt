@@ -1,6 +1,6 @@
 // The shortest-poop question: on a ship, or on any bytes as a ship record, with refusals 1 to 11, then 14 to 16.
 ghost use mathlib.Core.Path.{_≡_};
-ghost use Prim.Native.Nat.{_<_};
+ghost use Prim.Native.Nat.{_≤_, _<_};
 ghost use Rattle.marks.specs.Steps.{Sound};
 ghost use Rattle.poop.specs.Question.{reply, noRoom, shortestFor, replyFor, replyIn};
 use record::reader;
@@ -29,13 +29,14 @@ fn no_room(x: Ship) -> bool
 
 // The first length that fits. A longer poop can raise the mark, so each is tried.
 fn shortest(x: Ship, height: u64, wish: u64) -> Answer
-    requires { ⌜ Sound x × (x .n < 8) ⌝ }
+    requires { ⌜ Sound x × (x .n < 8) × (1 ≤ height) × (height ≤ 8191) ⌝ }
     ensures { λ r. ⌜ reply r ≡ shortestFor x height wish ⌝ }
 {
+    let q = trial::standing_of(x, height, wish);
     let l = x.length.0;
     let mut k: u64 = 0;
     while 100 * k <= l {
-        if trial::fits(x, height, wish, k) {
+        if trial::fits(q, k) {
             return Answer::Poop(k);
         }
         k += 1;

@@ -1,15 +1,65 @@
-// The trial of one length: the ship with that poop, its houses checked, and its marks.
+// The trial of one length: what stays the same from length to length is worked once, and only the poop's part for each.
 ghost use mathlib.Core.Path.{_≡_};
 ghost use Prim.Native.Nat.{_*_, _≤_, _<_};
-ghost use Rattle.marks.specs.Steps.{Sound, summerOf};
-ghost use Rattle.marks.specs.Marks.{markLines};
-ghost use Rattle.poop.specs.Poop.{poopHouse, withFirst, withPoop, within, fitsAt};
-use marks::Answer;
+ghost use Rattle.marks.specs.Steps.{Sound};
+ghost use Rattle.marks.specs.Parts.{FairDeck};
+ghost use Rattle.poop.specs.Poop.{poopHouse};
+ghost use Rattle.poop.specs.Standing.{roomOf, standingOf, deckFor, markedOn, fitsOn, Fair};
+use mark::Outcome;
+use marks::steps;
+use marks::steps::Deck;
+use marks::steps::Hull;
 use ship::House;
 use ship::Ship;
-use ship::checks;
-use ship::refusal::Verdict;
+use units::AP;
 use units::Span;
+
+// What no length of poop changes: the hull, the deck without a poop, how far a poop may reach, what the marks need besides, and what is asked.
+pub struct Standing {
+    pub hull: Hull,
+    pub deck: Deck,
+    pub room: u64,
+    pub depth: Span,
+    pub displacement: u64,
+    pub immersion: u64,
+    pub height: u64,
+    pub wish: u64,
+}
+
+// How far a poop may reach: to the first house, or to L.
+fn room_of(x: Ship) -> u64
+    ensures { λ r. ⌜ r ≡ roomOf x ⌝ }
+{
+    if x.n == 0 {
+        return x.length.0;
+    }
+    let hs = x.houses;
+    let h = hs[0];
+    whole::less(h.aft.0, AP)
+}
+
+pub fn standing_of(x: Ship, height: u64, wish: u64) -> Standing
+    requires { ⌜ Sound x × (1 ≤ height) × (height ≤ 8191) ⌝ }
+    ensures { λ r. ⌜ r ≡ standingOf x height wish ⌝ }
+    ensures { λ r. ⌜ Fair r ⌝ }
+{
+    let l = x.length;
+    let hs = x.houses;
+    let depth = x.depth;
+    let hull = steps::hull_of(x);
+    let deck = steps::deck_of(l, hs, x.n);
+    let room = room_of(x);
+    Standing {
+        hull,
+        deck,
+        room,
+        depth,
+        displacement: x.displacement,
+        immersion: x.immersion,
+        height,
+        wish,
+    }
+}
 
 // The poop of `k` decimetres.
 fn poop_house(height: u64, k: u64) -> House
@@ -27,66 +77,45 @@ fn poop_house(height: u64, k: u64) -> House
     }
 }
 
-// The ship with a house set before the others.
-fn with_first(x: Ship, h: House) -> Ship
-    requires { ⌜ x .n < 8 ⌝ }
-    ensures { λ r. ⌜ r ≡ withFirst h x ⌝ }
+// The deck with a poop of `k` decimetres; none where `k` is 0.
+fn deck_for(q: Standing, k: u64) -> Deck
+    requires { ⌜ Fair q × (100 * k ≤ q .hull .length .0) ⌝ }
+    ensures { λ r. ⌜ r ≡ deckFor q k ⌝ }
 {
-    let length = x.length;
-    let depth = x.depth;
-    let moulded = x.moulded;
-    let sheer = x.sheer;
-    let b = x.houses;
-    let houses = [h, b[0], b[1], b[2], b[3], b[4], b[5], b[6]];
-    Ship {
-        kind: x.kind,
-        n: x.n + 1,
-        length,
-        depth,
-        moulded,
-        block: x.block,
-        waterplane: x.waterplane,
-        sheer,
-        displacement: x.displacement,
-        immersion: x.immersion,
-        houses,
-    }
-}
-
-// The ship with a poop of `k` decimetres; none where `k` is 0.
-fn with_poop(x: Ship, height: u64, k: u64) -> Ship
-    requires { ⌜ (x .n < 8) × (k ≤ 3650) ⌝ }
-    ensures { λ r. ⌜ r ≡ withPoop height k x ⌝ }
-{
+    let hull = q.hull;
+    let deck = q.deck;
     if k == 0 {
-        return x;
+        return deck;
     }
-    with_first(x, poop_house(height, k))
+    let l = hull.length;
+    steps::with_house(l, poop_house(q.height, k), deck)
 }
 
-// Whether a ship that passes 9 to 11 has marks, with S at most the wish.
-fn marked(y: Ship, wish: u64) -> bool
-    requires { ⌜ Sound y ⌝ }
-    ensures { λ r. ⌜ r ≡ within (markLines y) (summerOf y) wish ⌝ }
+// Whether the marks that follow from `s` are given, with S at most the wish.
+fn marked(q: Standing, s: u64) -> bool
+    requires { ⌜ Fair q ⌝ }
+    ensures { λ r. ⌜ r ≡ markedOn q s ⌝ }
 {
-    let a = marks::of_ship(y);
-    match a {
-        Answer::Given(m) => m.s <= wish,
-        Answer::Refused(_) => false,
+    let hull = q.hull;
+    let l = hull.length;
+    let depth = q.depth;
+    let o = mark::follow(50, depth, s, l, q.displacement, q.immersion);
+    match o {
+        Outcome::Given(m) => m.s <= q.wish,
+        Outcome::NoDraught => false,
+        Outcome::FreshAllowance => false,
     }
 }
 
-// Whether a poop of `k` decimetres fits: checks 9 to 11 on the new list, then the marks. Checks 7 and 8 see nothing new.
-pub fn fits(x: Ship, height: u64, wish: u64, k: u64) -> bool
-    requires { ⌜ Sound x × (x .n < 8) × (100 * k ≤ x .length .0) ⌝ }
-    ensures { λ r. ⌜ r ≡ fitsAt x height wish k ⌝ }
+// Whether a poop of `k` decimetres fits. Of checks 9 to 11 only the overlap with the first house can refuse it.
+pub fn fits(q: Standing, k: u64) -> bool
+    requires { ⌜ Fair q × (100 * k ≤ q .hull .length .0) × (100 * k ≤ q .room → FairDeck (q .hull .length .0) (deckFor q k)) ⌝ }
+    ensures { λ r. ⌜ r ≡ fitsOn q k ⌝ }
 {
-    let y = with_poop(x, height, k);
-    let l = y.length;
-    let hs = y.houses;
-    let v = checks::of_houses(l, hs, y.n);
-    match v {
-        Verdict::Accepted => marked(y, wish),
-        Verdict::Refused(_) => false,
+    if q.room < 100 * k {
+        return false;
     }
+    let hull = q.hull;
+    let d = deck_for(q, k);
+    marked(q, steps::summer_on(hull, d))
 }

@@ -1,3 +1,5 @@
 pub mod Parts
+pub mod HeadIn
+pub mod HeadOut
 pub mod Framed
 pub mod Written

@@ -2,11 +2,11 @@
 use Prim.Native.Nat.{ℕ, zero, suc, _+_, _-_, _*_, _≤_, _<_}
 use mathlib.Core.List.{List, [], _∷_, _++_, append-assoc, append-nil}
 use mathlib.Core.Path.{_≡_, refl, sym, ap, _∙_}
-use lib.ListN.{length, take, drop, set, replicate, length-append}
+use lib.ListN.{length, take, drop, set, replicate, length-append, drop-of-length-le}
 use lib.Seq.{drop-append-add, set-at, append-snoc, take-at, drop-at, drop-drop, take-suc, length-take-le}
 use native.Mathlib.Numerals.{add-one}
 use native.Mathlib.Omega.{arith}
-use Rattle.bits.specs.Fields.{number, pack, Fit, Narrow}
+use Rattle.bits.specs.Fields.{number, pack, Fit}
 use Rattle.bits.proofs.Radix.{length-bytes, fit-unpack}
 use Rattle.ship.specs.declared.House.{House}
 use Rattle.ship.specs.declared.Ship.{Ship}
@@ -14,12 +14,22 @@ use Rattle.ship.specs.Vessel as Vessel
 use Rattle.ship.specs.Vessel.{noHouse}
 use Rattle.record.specs.Layout.{headWidths, houseWidths, houseFields, houseBytes, housesBytes, houseIn, housesIn, headFields, headIn, headBytes}
 
-pub head-narrow : Narrow headWidths
-head-narrow = omega arith
-
 -- a part that was lent from a on, back with other bytes
 pub part-back : (p q ys : List ℕ) (a m : ℕ) → length p ≡ a → take a (p ++ q) ++ (ys ++ drop m (drop a (p ++ q))) ≡ (p ++ ys) ++ drop m q
 part-back p q ys a m e = rw (take-at p q a e, drop-at p q a e) (sym (append-assoc p ys (drop m q)))
+
+-- parts lent one after the other, up to the slice's end
+pub two-parts : (d p q : List ℕ) (a b : ℕ) → length p ≡ a → length d ≡ a + b
+    → let x = p ++ drop a d in
+    take a x ++ (q ++ drop b (drop a x)) ≡ p ++ q
+two-parts d p q a b lp ld = part-back p (drop a d) q a b lp ∙ rw (drop-drop b a d, drop-of-length-le d {i = a + b} (omega arith)) (append-nil (p ++ q))
+
+pub three-parts : (d p q r : List ℕ) (a b c : ℕ) → length p ≡ a → length q ≡ b → length d ≡ a + b + c
+    → let x = p ++ drop a d in
+    let y = take a x ++ (q ++ drop b (drop a x)) in
+    take (a + b) y ++ (r ++ drop c (drop (a + b) y)) ≡ (p ++ q) ++ r
+three-parts d p q r a b c lp lq ld =
+    rw (part-back p (drop a d) q a b lp, drop-drop b a d) (two-parts d (p ++ q) r (a + b) c (omega (arith, length-append p q)) ld)
 
 pub length-houseBytes : (h : House) → length (houseBytes h) ≡ 8
 unfolding houseBytes

@@ -1,28 +1,7 @@
-// The widths of the head's fields, and the turn of a signed field's sign.
+// The turn of a signed field's sign.
 ghost use mathlib.Core.Path.{_≡_};
 ghost use Prim.Native.Nat.{_<_};
 ghost use Rattle.record.specs.Layout.{turn21, turn14};
-
-// Version, type, houses n, spare; L, D, M, Cb, Cwf; six ordinates of sheer; displacement, immersion.
-pub const HEAD: [usize; 17] = [
-    4,
-    2,
-    4,
-    6,
-    20,
-    16,
-    16,
-    14,
-    14,
-    14,
-    14,
-    14,
-    14,
-    14,
-    14,
-    20,
-    16,
-];
 
 // Between two's complement of 21 bits and a station, both ways.
 pub fn turned21(u: u64) -> u64

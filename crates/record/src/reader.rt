@@ -63,14 +63,36 @@ fn first_spare(s: &[u8], n: usize) -> usize
     k
 }
 
-// The fields of the head.
+// The fields of the head, from six words: only M lies in two, its first 4 bits in `b`.
 fn head_in(s: &[u8]) -> [u64; 17]
     requires { ⌜ 27 ≤ length (now s) ⌝ }
     ensures { λ r. ⌜ r ≡ headIn (now (s .entry)) ⌝ }
 {
-    let mut f = [0u64; 17];
-    bits::get(&s[..27], &layout::HEAD, &mut f);
-    f
+    let a = bits::word(&s[0..2]);
+    let b = bits::word(&s[2..7]);
+    let c = bits::word(&s[7..12]);
+    let d = bits::word(&s[12..19]);
+    let e = bits::word(&s[19..25]);
+    let f = bits::word(&s[25..27]);
+    [
+        a >> 12,
+        (a >> 10) % 4,
+        (a >> 6) % 16,
+        a % 64,
+        b >> 20,
+        (b >> 4) % 65536,
+        b % 16 * 4096 + (c >> 28),
+        (c >> 14) % 16384,
+        c % 16384,
+        d >> 42,
+        (d >> 28) % 16384,
+        (d >> 14) % 16384,
+        d % 16384,
+        e >> 34,
+        (e >> 20) % 16384,
+        e % 1048576,
+        f,
+    ]
 }
 
 // Checks 1 to 6. Each is safe to work only where those before it passed.

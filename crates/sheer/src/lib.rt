@@ -1,7 +1,7 @@
 // Sheer (regulation 38): what it adds to the freeboard and what it deducts, one of them 0.
 ghost use mathlib.Core.Path.{_≡_};
 ghost use Prim.Native.Nat.{_+_, _*_, _≤_, _<_};
-ghost use Rattle.sheer.specs.Sheer.{Lifted, weighted, afterCounts, forwardShare, meanAbove, meanLacks, excess, deficiency, addition, deduction, added, deducted};
+ghost use Rattle.sheer.specs.Sheer.{Lifted, weighted, afterCounts, forwardShare, meanAbove, meanLacks, excess, deficiency, addition, deduction, afterSum, forwardSum};
 use units::Freeboard;
 use units::Span;
 
@@ -15,7 +15,7 @@ pub struct Correction {
 }
 
 // The mean of both halves, in two parts of which one is 0.
-struct Mean {
+pub struct Mean {
     pub deficiency: Freeboard,
     pub excess: Freeboard,
 }
@@ -116,19 +116,26 @@ fn deduct(excess: Freeboard, l: Span, s: Span, reach: u64) -> Freeboard
     Freeboard(whole::lesser(full, 5 * mm / 4))
 }
 
-// The whole step. The ordinates are AP, L/6, L/3 from AP, then L/3, L/6 from FP, FP, each lifted by 8192 mm; `s` is the length that
-// enclosed houses cover; `reach` is the cover's, before amidships and abaft, in tenths of a millimetre.
-pub fn correct(l: Span, ordinates: [u64; 6], s: Span, reach: u64) -> Correction
-    requires { ⌜ (24000 ≤ l .0) × (l .0 ≤ 365000) × (s .0 ≤ l .0) × (reach ≤ 2 * l .0) ⌝ }
-    requires { ⌜ Lifted ordinates ⌝ }
-    ensures { λ r. ⌜ (r .added .0 ≡ added ordinates (l .0) (s .0)) × (r .deducted .0 ≡ deducted ordinates (l .0) (s .0) reach) ⌝ }
-    ensures { λ r. ⌜ (r .added .0 ≤ 9000000) × (r .deducted .0 ≤ 456250) ⌝ }
+// 38(8) to (11): the mean. The ordinates are AP, L/6, L/3 from AP, then L/3, L/6 from FP, FP, each lifted by 8192 mm. No house changes it.
+pub fn mean_sheer(l: Span, ordinates: [u64; 6]) -> Mean
+    requires { ⌜ (l .0 ≤ 365000) × Lifted ordinates ⌝ }
+    ensures { λ r. ⌜ (r .deficiency .0 ≡ deficiency (afterSum ordinates) (forwardSum ordinates) (l .0)) × (r .excess .0 ≡ excess (afterSum ordinates) (forwardSum ordinates) (l .0)) ⌝ }
+    ensures { λ r. ⌜ (r .deficiency .0 ≤ 9000000) × (r .excess .0 ≤ 7200000) ⌝ }
 {
     let a = half(ordinates[0], ordinates[1], ordinates[2]);
     let f = half(ordinates[5], ordinates[4], ordinates[3]);
-    let m = mean_of(a, f, l);
-    Correction {
-        added: add(m.deficiency, l, s),
-        deducted: deduct(m.excess, l, s, reach),
-    }
+    mean_of(a, f, l)
+}
+
+// 38(14) to (16): what a mean adds and deducts. `s` is the length that enclosed houses cover; `reach` is the cover's, before amidships and
+// abaft, in tenths of a millimetre.
+pub fn correct(m: Mean, l: Span, s: Span, reach: u64) -> Correction
+    requires { ⌜ (m .deficiency .0 ≤ 9000000) × (m .excess .0 ≤ 7200000) ⌝ }
+    requires { ⌜ (24000 ≤ l .0) × (l .0 ≤ 365000) × (s .0 ≤ l .0) × (reach ≤ 2 * l .0) ⌝ }
+    ensures { λ r. ⌜ (r .added .0 ≡ addition (m .deficiency .0) (l .0) (s .0)) × (r .deducted .0 ≡ deduction (m .excess .0) (l .0) (s .0) reach) ⌝ }
+    ensures { λ r. ⌜ (r .added .0 ≤ 9000000) × (r .deducted .0 ≤ 456250) ⌝ }
+{
+    let added = add(m.deficiency, l, s);
+    let deducted = deduct(m.excess, l, s, reach);
+    Correction { added, deducted }
 }

@@ -41,7 +41,8 @@ pub fn tabular_a(l: Span) -> Freeboard
 {
     let mm = l.0;
     let k = row_of(mm);
-    between(table28a::row(k), table28a::row(next(k)), mm)
+    let rows = table28a::rows(k, next(k));
+    between(rows.lo, rows.hi, mm)
 }
 
 // The tabular freeboard of a type B ship of length `l`.
@@ -52,5 +53,6 @@ pub fn tabular_b(l: Span) -> Freeboard
 {
     let mm = l.0;
     let k = row_of(mm);
-    between(table28b::row(k), table28b::row(next(k)), mm)
+    let rows = table28b::rows(k, next(k));
+    between(rows.lo, rows.hi, mm)
 }

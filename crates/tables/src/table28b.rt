@@ -4,8 +4,10 @@ ghost use mathlib.Core.Path.{_≡_};
 ghost use Prim.Native.Nat.{_<_};
 ghost use lib.ListN.{getD};
 ghost use Rattle.tables.specs.Table28.{table28B};
+use crate::row28;
+use crate::row28::Rows;
 
-const ROWS: [u64; 342] = [
+const ROWS: [u16; 342] = [
     200,
     208,
     217,
@@ -350,10 +352,13 @@ const ROWS: [u64; 342] = [
     5303,
 ];
 
-// Row `k`, that of 24 + k metres.
-pub fn row(k: usize) -> u64
-    requires { ⌜ k < 342 ⌝ }
-    ensures { λ r. ⌜ r ≡ getD table28B k 0 ⌝ }
+// Rows `k` and `j`, those of 24 + k and 24 + j metres: both from one laying out of the table.
+pub fn rows(k: usize, j: usize) -> Rows
+    requires { ⌜ (k < 342) × (j < 342) ⌝ }
+    ensures { λ r. ⌜ (r .lo ≡ getD table28B k 0) × (r .hi ≡ getD table28B j 0) ⌝ }
 {
-    ROWS[k]
+    let table = ROWS;
+    let lo = row28::wide(table[k]);
+    let hi = row28::wide(table[j]);
+    Rows { lo, hi }
 }

@@ -6,7 +6,7 @@ use lib.ListN.{length, take, drop}
 use denote.Ref.{now}
 use Rattle.bits.specs.Fields.{piece, bytes}
 use Rattle.bits.proofs.Radix.{getD-bytes, length-bytes}
-use Rattle.bits.proofs.Shift.{fill-step, fill-all}
+use Rattle.bits.proofs.Fill.{fill-step, fill-all}
 use native.Mathlib.Omega.{arith}
 use borrow.Author.Needs.{needs}
 use Rattle.bits.proofs.put_word.Statement.{statement}

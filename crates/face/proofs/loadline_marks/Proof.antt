@@ -1,7 +1,5 @@
-use Prim.Native.Nat.{ℕ}
 use mathlib.Core.Path.{_≡_, sym, ap, _∙_, subst}
 use native.Mathlib.Omega.{arith}
-use lib.IntN.{natAbs}
 use denote.Ref.{now}
 use borrow.Author.Needs.{needs}
 use Rattle.ship.specs.Refusals.{numberOf}

@@ -1,8 +1,8 @@
-use mathlib.Core.Path.{_≡_, sym, ap, _∙_, subst}
+use mathlib.Core.Path.{sym, ap, _∙_, subst}
 use denote.Ref.{now}
 use borrow.Author.Needs.{needs}
 use Rattle.ship.specs.declared.Ship.{Ship}
-use Rattle.record.specs.Reading.{Reading, readingIn}
+use Rattle.record.specs.Reading.{Reading}
 use Rattle.face.specs.Flat.{NearSheer, NearHouses}
 use Rattle.face.specs.Answers.{fromReading}
 use Rattle.face.proofs.Room.{near-read}

@@ -1,6 +1,6 @@
-use mathlib.Core.Path.{_≡_, sym, ap, _∙_}
+use mathlib.Core.Path.{sym, ap, _∙_}
 use borrow.Author.Needs.{needs}
-use Rattle.poop.specs.Question.{Reply, reply}
+use Rattle.poop.specs.Question.{reply}
 use Rattle.face.specs.Answers.{fromReply}
 use Rattle.face.proofs.loadline_shortest_poop.Statement.{statement}
 use Rattle.face.proofs.loadline_shortest_poop.Tie as tie

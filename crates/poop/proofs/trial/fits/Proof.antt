@@ -1,49 +1,29 @@
-use mathlib.Core.Path.{_≡_, _∙_, sym, ap}
+use Prim.Native.Nat.{_*_}
+use mathlib.Core.Path.{refl, ap, _∙_}
 use borrow.Author.Needs.{needs}
-use native.Mathlib.Omega.{arith}
-use Rattle.ship.specs.declared.Ship.{Ship}
-use Rattle.ship.specs.Vessel.{housesOf}
-use Rattle.ship.specs.Refusals.{Paper, paper, first}
-use Rattle.ship.specs.Checks.{houseLines}
-use Rattle.marks.specs.Steps.{summerOf}
-use Rattle.marks.specs.Marks.{markLines}
-use Rattle.poop.specs.Poop.{withPoop, within, fitsAt}
-use Rattle.poop.proofs.Tried.{length-kept, few-kept, sound-kept, houses-passed, houses-refused}
+use borrow.Author.Tests.{le-leb, lt-leb}
+use Rattle.marks.specs.Parts.{summerOn}
+use Rattle.poop.specs.Standing.{markedOn, fitsOn}
 use Rattle.poop.proofs.trial.fits.Statement.{statement}
 use Rattle.poop.proofs.trial.fits.Tie as tie
 
--- the checks are those of the ship with the poop
-checked : (c : tie.After-of-houses)
-    → let a = c .before .before .before .before .args in
-    let y = withPoop (a .height) (a .k) (a .x) in
-    paper (c .of-houses .result) ≡ first (houseLines (y .length .0) (housesOf y))
-checked c =
-    c .of-houses .ensures
-    ∙ ap (λ (y : Ship). first (houseLines (y .length .0) (housesOf y))) (c .before .before .before .with-poop .ensures)
-
 pub fits-spec : {M : Type 1} → statement M
-unfolding fitsAt
+unfolding fitsOn
 fits-spec =
     tie.close
     (tie.spec
+    (λ c. search needs)
+    (λ c. let a = c .before .before .args in rw (lt-leb (100 * a .k) (a .q .room) (c .if1 .taken)) refl)
     (λ c κs. search needs)
-    (λ c κs. let w = c .before .before in
-    let a = w .before .args in
-    rw (w .with-poop .ensures) (omega (arith, length-kept (a .x) (a .height) (a .k), few-kept (a .x) (a .height) (a .k) (w .before .pre .1))))
-    (λ c. search needs)
-    (λ c κs. let h = c .before .before in
-    let w = h .before .before .before in
-    let a = w .before .args in
-    rw (w .with-poop .ensures)
-    (sound-kept (a .x) (a .height) (a .k) (w .before .pre .0) (w .before .pre .1)
-    (ap (λ (p : Paper). p .number) (sym (checked h) ∙ ap paper (c .enum-told .given .1)))))
-    (λ c. search needs)
-    (λ c. let h = c .before .before .before in
-    let w = h .before .before .before in
-    let a = w .before .args in
-    c .marked .ensures
-    ∙ ap (λ (y : Ship). within (markLines y) (summerOf y) (a .wish)) (w .with-poop .ensures)
-    ∙ houses-passed (withPoop (a .height) (a .k) (a .x)) (a .wish) (sym (checked h) ∙ ap paper (c .before .enum-told .given .1)))
-    (λ c. let h = c .before .before in
-    let a = h .before .before .before .before .args in
-    houses-refused (withPoop (a .height) (a .k) (a .x)) (a .wish) (c .enum-told2 .given .0 .0) (sym (checked h) ∙ ap paper (c .enum-told2 .given .1))))
+    (λ c κs.
+    let e = c .before .before in
+    let s = e .before .before in
+    (s .pre .0 .hull, rw (c .deck-for .ensures) (s .pre .2 (e .if1 .left))))
+    (λ c κs. search needs)
+    (λ c.
+    let s = c .before in
+    let d = s .before in
+    let e = d .before .before in
+    let a = e .before .before .args in
+    rw (le-leb (100 * a .k) (a .q .room) (e .if1 .left))
+    (c .marked .ensures ∙ ap (markedOn (a .q)) (s .summer-on .ensures ∙ ap (summerOn (a .q .hull)) (d .deck-for .ensures)))))

@@ -13,6 +13,5 @@ tabular-a-spec =
     (λ c κs. search needs)
     (λ c κs. search needs)
     (λ c κs. search needs)
-    (λ c κs. search needs)
-    (λ c κs. fits rows-a (c .before .before .before .before .args .l .0) (omega arith) (cc) (cc))
+    (λ c κs. fits rows-a (c .before .before .before .args .l .0) (omega arith) (cc) (cc))
     (λ c. (cc, search needs)))

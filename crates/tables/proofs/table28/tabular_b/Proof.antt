@@ -13,6 +13,5 @@ tabular-b-spec =
     (λ c κs. search needs)
     (λ c κs. search needs)
     (λ c κs. search needs)
-    (λ c κs. search needs)
-    (λ c κs. fits rows-b (c .before .before .before .before .args .l .0) (omega arith) (cc) (cc))
+    (λ c κs. fits rows-b (c .before .before .before .args .l .0) (omega arith) (cc) (cc))
     (λ c. (cc, search needs)))

@@ -5,15 +5,11 @@ use mathlib.Core.Path.{_≡_, refl, sym, ap, ap₂, subst, _∙_}
 use lib.ListN.{length, take, drop, replicate, getD, length-append, replicate-append-replicate, length-replicate}
 use lib.Pow.{pow-mono, pow-add, pow-pos, mod-pow-add, high}
 use lib.Arith.{digits-lt}
-use lib.Seq.{take-suc, take-nil, getD-drop, length-take-le}
+use lib.Seq.{take-suc, getD-drop, length-take-le}
 use native.Mathlib.Nat.{lt-of-lt-of-le, mod-lt, mod-one, mod-eq-of-lt, zero-add, add-assoc, mul-assoc, mul-add-div-right, mul-add-mod-self-right, add-mul}
 use native.Mathlib.Omega.{arith}
 use native.Mathlib.Numerals.{add-one}
 use Rattle.bits.specs.Fields.{total, pack, piece, unpack, Fit, number, bytes, Bytes}
-
-pub piece-lt : (n a w : ℕ) → piece n a w < 2 ^ w
-unfolding piece
-piece-lt n a w = mod-lt (n / 2 ^ a) (pow-pos w)
 
 pub total-eights : (k : ℕ) → total (replicate k 8) ≡ 8 * k
 unfolding pack unpack piece number bytes
@@ -120,16 +116,6 @@ pub fit-each : (ws vs : List ℕ) → Fit ws vs → (i : ℕ) → getD vs i 0 < 
 fit-each [] [] f i = omega arith
 fit-each (w ∷ ws) (v ∷ vs) f zero = f .0
 fit-each (w ∷ ws) (v ∷ vs) f (suc i) = fit-each ws vs (f .1) i
-
-pub total-more : (ws : List ℕ) (i : ℕ) → i < length ws → total (take (i + 1) ws) ≡ total (take i ws) + getD ws i 0
-unfolding pack unpack piece number bytes
-total-more ws i h = rw (add-one i, take-suc ws i 0, total-append (take i ws) (getD ws i 0 ∷ [])) (omega arith)
-
-pub total-up : (ws : List ℕ) (i : ℕ) → total (take i ws) ≤ total ws
-unfolding pack unpack piece number bytes
-total-up [] i = omega (arith, ap total (take-nil i))
-total-up (w ∷ ws) zero = omega arith
-total-up (w ∷ ws) (suc i) = omega (arith, total-up ws i)
 
 -- the j-th of k bytes
 pub getD-bytes : (k n j : ℕ) → j < k → getD (bytes k n) j 0 ≡ piece n (8 * k - 8 * (j + 1)) 8

@@ -4,4 +4,3 @@ pub mod Limits
 pub mod Rounded
 pub mod Midship
 pub mod Foremost
-pub mod Adding

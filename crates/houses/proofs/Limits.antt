@@ -14,13 +14,9 @@ use Rattle.whole.proofs.Frac.{bot-of}
 use Rattle.ship.specs.declared.House.{House}
 use Rattle.ship.specs.Vessel.{noHouse}
 use Rattle.ship.specs.Good.{GoodHouses}
-use Rattle.houses.specs.declared.Measure.{Measure}
-use Rattle.houses.specs.declared.Measure.the-variants.{Length, Effective, Reach}
 use Rattle.houses.specs.Length.{partOf, total, coveredLength}
 use Rattle.houses.specs.Height.{ordinaryHeight, raisedHeight, standardHeight}
 use Rattle.houses.specs.Effective.{limitedLength, exactEffective, effectiveOf, effectiveLength}
-use Rattle.houses.specs.Cover.{reachOf}
-use Rattle.houses.specs.Amount.{amountOf}
 use Rattle.houses.proofs.Counted.{covered-most}
 
 pub part-most : (l : ℕ) (h : House) → partOf l h ≤ l
@@ -58,16 +54,6 @@ unfolding effectiveOf
 effective-most l h =
     let x = exactEffective l h in
     omega (arith, floor-most (x .top) (x .bot) (limitedLength l h) (omega (arith, exact-most l h .le)), limited-most l h)
-
-pub reach-of-most : (l : ℕ) (h : House) → reachOf l h ≤ 2 * l
-unfolding reachOf
-reach-of-most l h = by-cases (λ (n : ℕ). n ≤ 2 * l) _ _ _ (λ t. omega arith) (λ t. omega arith)
-
-pub amount-most : (of : Measure) (l : ℕ) (h : House) → amountOf of l h ≤ 1000 * l
-unfolding amountOf
-amount-most Length l h = omega (arith, part-most l h)
-amount-most Effective l h = omega (arith, part-most l h, effective-most l h)
-amount-most Reach l h = omega (arith, reach-of-most l h)
 
 -- E is at most 1000 S, and so at most 1000 L
 pub effective-by-covered : (l : ℕ) (hs : List House) → effectiveLength l hs ≤ 1000 * coveredLength l hs

@@ -4,4 +4,3 @@ pub mod Effective
 pub mod Covered
 pub mod Forecastle
 pub mod Cover
-pub mod Amount

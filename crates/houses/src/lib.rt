@@ -1,15 +1,14 @@
-// Houses on the freeboard deck (33 to 35): lengths, standard heights and effective lengths; the forecastle, and 38's cover amidships.
+// A house on the freeboard deck (33 to 35): its length, standard height and effective length; whether it is the forecastle; its reach in 38's cover
+// amidships. marks::steps sums them over a deck.
 ghost use mathlib.Core.Path.{_≡_};
 ghost use Prim.Native.Nat.{_+_, _*_, _≤_};
-ghost use lib.ListN.{take};
 ghost use Rattle.whole.specs.Frac.{frac, _≈f_};
-ghost use Rattle.ship.specs.Good.{GoodHouse, GoodHouses};
-ghost use Rattle.houses.specs.Length.{partOf, total, coveredLength};
+ghost use Rattle.ship.specs.Good.{GoodHouse};
+ghost use Rattle.houses.specs.Length.{partOf};
 ghost use Rattle.houses.specs.Height.{Sized, ordinaryHeight, raisedHeight, standardHeight};
-ghost use Rattle.houses.specs.Effective.{limitedLength, effectiveOf, effectiveLength};
-ghost use Rattle.houses.specs.Forecastle.{isForecastle, forecastleOf};
-ghost use Rattle.houses.specs.Cover.{reachOf, reach};
-ghost use Rattle.houses.specs.Amount.{amountOf};
+ghost use Rattle.houses.specs.Effective.{limitedLength, effectiveOf};
+ghost use Rattle.houses.specs.Forecastle.{isForecastle};
+ghost use Rattle.houses.specs.Cover.{reachOf};
 use ship::House;
 use units::AP;
 use units::Effective;
@@ -25,13 +24,6 @@ const TENTHS_TO_AP: u64 = 10 * AP;
 pub struct Standard {
     pub size: u64,
     pub per: u64,
-}
-
-// What is summed over the houses.
-pub enum Measure {
-    Length,
-    Effective,
-    Reach,
 }
 
 // 34: a house's length, of which only the part between 0 and L counts.
@@ -145,89 +137,10 @@ pub fn reach_of(l: Span, h: House) -> u64
     0
 }
 
-// One of the three amounts, of a house.
-fn amount(of: Measure, l: Span, h: House) -> u64
-    requires { ⌜ (l .0 ≤ 365000) × GoodHouse (l .0) h ⌝ }
-    ensures { λ r. ⌜ r ≡ amountOf of (l .0) h ⌝ }
-    ensures { λ r. ⌜ r ≤ 1000 * l .0 ⌝ }
-{
-    match of {
-        Measure::Length => {
-            let length = part(l, h);
-            length.0
-        }
-        Measure::Effective => {
-            let length = effective_of(l, h);
-            length.0
-        }
-        Measure::Reach => reach_of(l, h),
-    }
-}
-
-// One of the three amounts, summed over the first `n` houses.
-fn sum(of: Measure, l: Span, houses: [House; 8], n: usize) -> u64
-    requires { ⌜ (l .0 ≤ 365000) × (n ≤ 8) × GoodHouses (l .0) (take n houses) ⌝ }
-    ensures { λ r. ⌜ r ≡ total (amountOf of (l .0)) (take n houses) ⌝ }
-{
-    let mut sum: u64 = 0;
-    let mut k = 0;
-    while k < n {
-        let h = houses[k];
-        sum += amount(of, l, h);
-        k += 1;
-    }
-    sum
-}
-
-// 34: S.
-pub fn covered(l: Span, houses: [House; 8], n: usize) -> Span
-    requires { ⌜ (l .0 ≤ 365000) × (n ≤ 8) × GoodHouses (l .0) (take n houses) ⌝ }
-    ensures { λ r. ⌜ r .0 ≡ coveredLength (l .0) (take n houses) ⌝ }
-    ensures { λ r. ⌜ r .0 ≤ l .0 ⌝ }
-{
-    Span(sum(Measure::Length, l, houses, n))
-}
-
-// 35: E.
-pub fn effective(l: Span, houses: [House; 8], n: usize) -> Effective
-    requires { ⌜ (l .0 ≤ 365000) × (n ≤ 8) × GoodHouses (l .0) (take n houses) ⌝ }
-    ensures { λ r. ⌜ r .0 ≡ effectiveLength (l .0) (take n houses) ⌝ }
-    ensures { λ r. ⌜ r .0 ≤ 1000 * l .0 ⌝ }
-{
-    Effective(sum(Measure::Effective, l, houses, n))
-}
-
-// 38: the cover amidships, in tenths of a mm of the 0.2 L.
-pub fn cover(l: Span, houses: [House; 8], n: usize) -> u64
-    requires { ⌜ (l .0 ≤ 365000) × (n ≤ 8) × GoodHouses (l .0) (take n houses) ⌝ }
-    ensures { λ r. ⌜ r ≡ reach (l .0) (take n houses) ⌝ }
-    ensures { λ r. ⌜ r ≤ 2 * l .0 ⌝ }
-{
-    sum(Measure::Reach, l, houses, n)
-}
-
 // Whether a house is the forecastle: enclosed, and its fore end at or beyond L.
 pub fn is_forecastle(l: Span, h: House) -> bool
     requires { ⌜ l .0 ≤ 365000 ⌝ }
     ensures { λ r. ⌜ r ≡ isForecastle (l .0) h ⌝ }
 {
     h.enclosed & (AP + l.0 <= h.fore.0)
-}
-
-// The forecastle, or an empty house where there is none.
-pub fn forecastle(l: Span, houses: [House; 8], n: usize) -> House
-    requires { ⌜ (l .0 ≤ 365000) × (n ≤ 8) × GoodHouses (l .0) (take n houses) ⌝ }
-    ensures { λ r. ⌜ r ≡ forecastleOf (l .0) (take n houses) ⌝ }
-    ensures { λ r. ⌜ r .height .0 ≤ 8191 ⌝ }
-{
-    let mm = l.0;
-    let mut k = 0;
-    while k < n {
-        let house = houses[k];
-        if house.enclosed & (AP + mm <= house.fore.0) {
-            return house;
-        }
-        k += 1;
-    }
-    ship::no_house()
 }

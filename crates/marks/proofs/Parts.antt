@@ -1,13 +1,14 @@
 -- The parts give the whole: a hull and a deck of one ship have its summer mark, and a house set before the others changes the deck as the definition says.
 use Prim.Native.Nat.{ℕ, zero, suc, _+_, _-_, _≤_}
 use mathlib.Core.Bool.{Bool, true, false}
-use mathlib.Core.List.{List, _∷_}
+use mathlib.Core.List.{List, [], _∷_}
 use mathlib.Core.Path.{_≡_, refl, sym, ap, _∙_}
 use native.Mathlib.Omega.{arith}
 use native.Mathlib.Numerals.{add-one}
 use borrow.Author.Tests.{ltb-true, lt-ltb}
 use lib.Dec.{ltb}
-use lib.ListN.{length, getD}
+use lib.ListN.{length, getD, drop, length-drop}
+use lib.Seq.{getD-drop}
 use Rattle.whole.specs.Pick.{pick}
 use Rattle.whole.proofs.Pick.{by-cases, same-test}
 use Rattle.ship.specs.declared.House.{House}
@@ -20,7 +21,8 @@ use Rattle.houses.specs.Effective.{effectiveOf, effectiveLength}
 use Rattle.houses.specs.Forecastle.{isForecastle, isForecastleAt, forecastleAt, forecastleOf}
 use Rattle.houses.specs.Cover.{reachOf, reach}
 use Rattle.houses.proofs.Counted.{covered-most}
-use Rattle.houses.proofs.Limits.{part-most, effective-length-most}
+use Rattle.houses.proofs.Limits.{part-most, effective-length-most, no-part, no-effective}
+use Rattle.houses.proofs.Foremost.{forecastle-none}
 use Rattle.houses.proofs.Midship.{reach-most}
 use Rattle.corrections.specs.Gathered as Before
 use Rattle.sheer.specs.Sheer as Sheer
@@ -28,7 +30,7 @@ use Rattle.bow.specs.Bow.{higher, lower, sheerTaken, forecastleTaken, bowFreebo
 use Rattle.mark.specs.Summer.{summerMark}
 use Rattle.marks.specs.declared.steps.Deck.{Deck}
 use Rattle.marks.specs.Steps.{coveredS, effectiveE, forecastleHouse, coverReach, addedTo, takenFrom, bowOf, summerOf}
-use Rattle.marks.specs.Parts.{hullOf, deckOf, deckWith, addedOn, takenOn, bowOn, summerOn, FairDeck}
+use Rattle.marks.specs.Parts.{hullOf, bareDeck, deckOf, deckWith, addedOn, takenOn, bowOn, summerOn, FairDeck}
 
 bow-parts : (x : Ship) → bowOn (hullOf x) (deckOf (x .length .0) (housesOf x)) ≡ bowOf x
 unfolding bowOn hullOf deckOf bowOf forecastleHouse bowFreeboard
@@ -108,4 +110,29 @@ fair-deck l hs g =
       reach = reach-most l hs g;
       part = part-most l (forecastleOf l hs);
       height = by-cases (λ (f : House). f .height .0 ≤ 8191) (ltb i (length hs)) (houseAt hs i) noHouse (λ t. g .each i (ltb-true i (length hs) t) .height-most) (λ t. omega arith);
+    }
+
+-- ---- the deck from the last house on
+pub bare : (l : ℕ) → deckOf l [] ≡ bareDeck
+unfolding deckOf coveredLength effectiveLength reach total
+bare l =
+    let f = forecastle-none l [] (omega arith) in
+    let e = ap (effectiveOf l) f ∙ no-effective l in
+    let p = ap (partOf l) f ∙ no-part l in
+    λ i. record {
+      s = record { 0 = 0 };
+      e = record { 0 = 0 };
+      reach = 0;
+      forecastle = record { 0 = e i };
+      part = record { 0 = p i };
+      height = f i .height;
+    }
+
+pub good-from : (l : ℕ) (hs : List House) (k : ℕ) → GoodHouses l hs → GoodHouses l (drop k hs)
+good-from l hs k g =
+    record {
+      each = λ j m. rw (getD-drop k hs j _) (g .each (k + j) (omega (arith, length-drop k hs)));
+      order = λ j m.
+          let a : k + (j + 1) ≡ k + j + 1 = omega arith in
+          rw (getD-drop k hs j _, getD-drop k hs (j + 1) _, a) (g .order (k + j) (omega (arith, length-drop k hs)));
     }

@@ -50,6 +50,9 @@ deckOf l hs = record {
   height = forecastleOf l hs .height;
 }
 
+abbrev pub bareDeck : Deck
+bareDeck = record { s = record { 0 = 0 }; e = record { 0 = 0 }; reach = 0; forecastle = record { 0 = 0 }; part = record { 0 = 0 }; height = record { 0 = 0 } }
+
 -- a deck with one more house before the others
 unfoldable pub deckWith : ℕ → House → Deck → Deck
 deckWith l h d = record {

@@ -9,7 +9,7 @@ ghost use Rattle.corrections.specs.Deduction37.{deduction};
 ghost use Rattle.corrections.specs.Short29.{shortB};
 ghost use Rattle.corrections.specs.Fullness30.{fullness};
 ghost use Rattle.marks.specs.Steps.{Sound, tableLine, summerOf};
-ghost use Rattle.marks.specs.Parts.{hullOf, deckOf, deckWith, summerOn, FairHull, FairDeck};
+ghost use Rattle.marks.specs.Parts.{hullOf, bareDeck, deckOf, deckWith, summerOn, FairHull, FairDeck};
 use bow::Height;
 use corrections::before_sheer;
 use corrections::deduction;
@@ -81,29 +81,6 @@ pub fn hull_of(x: Ship) -> Hull
     }
 }
 
-// The deck of the first `n` houses.
-pub fn deck_of(l: Span, hs: [House; 8], n: usize) -> Deck
-    requires { ⌜ (l .0 ≤ 365000) × (n ≤ 8) × GoodHouses (l .0) (take n hs) ⌝ }
-    ensures { λ r. ⌜ r ≡ deckOf (l .0) (take n hs) ⌝ }
-    ensures { λ r. ⌜ FairDeck (l .0) r ⌝ }
-{
-    let s = houses::covered(l, hs, n);
-    let e = houses::effective(l, hs, n);
-    let reach = houses::cover(l, hs, n);
-    let first = houses::forecastle(l, hs, n);
-    let forecastle = houses::effective_of(l, first);
-    let part = houses::part(l, first);
-    let height = first.height;
-    Deck {
-        s,
-        e,
-        reach,
-        forecastle,
-        part,
-        height,
-    }
-}
-
 // A deck with one more house before the others.
 pub fn with_house(l: Span, h: House, d: Deck) -> Deck
     requires { ⌜ (l .0 ≤ 365000) × GoodHouse (l .0) h × FairDeck (l .0) d ⌝ }
@@ -136,6 +113,36 @@ pub fn with_house(l: Span, h: House, d: Deck) -> Deck
         part,
         height,
     }
+}
+
+// The deck with no house.
+fn bare_deck() -> Deck
+    ensures { λ r. ⌜ r ≡ bareDeck ⌝ }
+{
+    Deck {
+        s: Span(0),
+        e: Effective(0),
+        reach: 0,
+        forecastle: Effective(0),
+        part: Span(0),
+        height: Span(0),
+    }
+}
+
+// The deck of the first `n` houses, set from the last on.
+pub fn deck_of(l: Span, hs: [House; 8], n: usize) -> Deck
+    requires { ⌜ (l .0 ≤ 365000) × (n ≤ 8) × GoodHouses (l .0) (take n hs) ⌝ }
+    ensures { λ r. ⌜ r ≡ deckOf (l .0) (take n hs) ⌝ }
+    ensures { λ r. ⌜ FairDeck (l .0) r ⌝ }
+{
+    let mut d = bare_deck();
+    let mut k = n;
+    while 0 < k {
+        k -= 1;
+        let h = hs[k];
+        d = with_house(l, h, d);
+    }
+    d
 }
 
 // Regulation 37 by the ordinary row of percentages.

@@ -1,10 +1,10 @@
 // Any bytes as a ship, or one numbered refusal.
 ghost use mathlib.Core.Path.{_≡_};
 ghost use Prim.Native.Nat.{_+_, _*_, _≤_, _<_};
-ghost use lib.ListN.{length};
+ghost use lib.ListN.{length, getD};
 ghost use Rattle.ship.specs.Refusals.{paper, first, refused, numberOf, placeOf};
 ghost use Rattle.ship.specs.Vessel.{noShip};
-ghost use Rattle.record.specs.Layout.{houseIn, spareIn, headIn, count, placesIn, shipIn};
+ghost use Rattle.record.specs.Layout.{houseIn, spareIn, headIn, version, kind, count, spare, placesIn, shipIn};
 ghost use Rattle.record.specs.Reading.{firstSpare, frameLines, readingIn, readingOf, shown};
 use crate::layout;
 use ship::House;
@@ -95,6 +95,15 @@ fn head_in(s: &[u8]) -> [u64; 17]
     ]
 }
 
+// The first four fields, all that checks 1 to 6 need of the head: version, type, houses n, spare.
+fn first_in(s: &[u8]) -> [u64; 4]
+    requires { ⌜ 27 ≤ length (now s) ⌝ }
+    ensures { λ r. ⌜ (getD r 0 0 ≡ version (now (s .entry))) × (getD r 1 0 ≡ kind (now (s .entry))) × (getD r 2 0 ≡ count (now (s .entry))) × (getD r 3 0 ≡ spare (now (s .entry))) ⌝ }
+{
+    let a = bits::word(&s[0..2]);
+    [a >> 12, (a >> 10) % 4, (a >> 6) % 16, a % 64]
+}
+
 // Checks 1 to 6. Each is safe to work only where those before it passed.
 fn frame(s: &[u8]) -> Verdict
     ensures { λ v. ⌜ paper v ≡ first (frameLines (now (s .entry))) ⌝ }
@@ -102,7 +111,7 @@ fn frame(s: &[u8]) -> Verdict
     if s.len() < 27 {
         return Verdict::Refused(Refusal::Short);
     }
-    let f = head_in(s);
+    let f = first_in(s);
     if f[0] != 1 {
         return Verdict::Refused(Refusal::Version);
     }

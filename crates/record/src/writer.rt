@@ -12,7 +12,6 @@ use crate::layout;
 use ship::House;
 use ship::Ship;
 use ship::checks;
-use ship::refusal;
 use ship::refusal::Refusal;
 use ship::refusal::Verdict;
 

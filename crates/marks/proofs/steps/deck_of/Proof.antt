@@ -1,41 +1,77 @@
--- Each amount is its own call's.
-use mathlib.Core.Path.{ap, _∙_}
+-- The houses passed, from the last on, have their deck.
+use Prim.Native.Nat.{ℕ, suc, _-_, _≤_, _<_}
+use mathlib.Core.List.{[], _∷_}
+use mathlib.Core.Path.{_≡_, sym, ap, _∙_}
+use lib.ListN.{length, take, drop, drop-of-length-le}
+use lib.Seq.{length-take-le, getD-take, drop-cons}
+use native.Mathlib.Omega.{arith}
 use borrow.Author.Needs.{needs}
-use Rattle.houses.specs.Length.{partOf}
-use Rattle.houses.specs.Effective.{effectiveOf}
-use Rattle.marks.specs.Parts.{deckOf}
+use Rattle.ship.specs.Vessel.{houseAt}
+use Rattle.marks.specs.Parts.{deckOf, deckWith}
+use Rattle.marks.proofs.Parts.{bare, deck-with, fair-deck, good-from}
 use Rattle.marks.proofs.steps.deck_of.Statement.{statement}
 use Rattle.marks.proofs.steps.deck_of.Tie as tie
 
+abbrev Inv-loop : tie.InvT-loop
+Inv-loop l n hs d₀ k₀ d k = (k ≤ n) × (d ≡ deckOf (l .0) (drop k (take n hs)))
+
+abbrev μ-loop : tie.MeasureT-loop
+μ-loop l n hs d₀ k₀ d k = k
+
+-- the list has n houses
+long : (s : tie.Start Inv-loop μ-loop) → length (take (s .args .n) (s .args .t2)) ≡ s .args .n
+long s = let m : length (s .args .t2) ≡ 8 = search needs in length-take-le (s .args .n) (s .args .t2) (omega arith)
+
 pub deck-of-spec : {M : Type 1} → statement M
-unfolding deckOf
 deck-of-spec =
     tie.close
     (tie.spec
-    (λ c κs. search needs)
-    (λ c κs. search needs)
-    (λ c κs. search needs)
-    (λ c κs. search needs)
-    (λ c κs. search needs)
+    Inv-loop
+    μ-loop
     (λ c κs. search needs)
     (λ c.
-    let p = c .before in
-    let v = p .before in
-    let f = v .before in
-    let r = f .before in
-    let e = r .before in
-    let s = e .before in
-    let l = s .before .args .l .0 in
-    let first = f .forecastle .ensures .0 in
-    let ve = v .effective-of .ensures .0 ∙ ap (effectiveOf l) first in
-    let pe = p .part .ensures .0 ∙ ap (partOf l) first in (
-      λ i. record {
-        s = record { 0 = s .covered .ensures .0 i };
-        e = record { 0 = e .effective .ensures .0 i };
-        reach = r .cover .ensures .0 i;
-        forecastle = record { 0 = ve i };
-        part = record { 0 = pe i };
-        height = first i .height;
-      },
-      record { s = s .covered .ensures .1; e = e .effective .ensures .1; reach = r .cover .ensures .1; part = p .part .ensures .1; height = f .forecastle .ensures .1 },
-    )))
+    let s = c .before in
+    let hs = take (s .args .n) (s .args .t2) in
+    let m : length hs ≤ s .args .n = omega (arith, long s) in
+    (omega arith, c .bare-deck .ensures ∙ sym (bare (s .args .l .0)) ∙ ap (deckOf (s .args .l .0)) (sym (drop-of-length-le hs m))))
+    (λ c. search needs)
+    (λ c. search needs)
+    (λ c. search needs)
+    (λ c κs.
+    let t = c .before .before in
+    let s = t .before .before in
+    let a = s .args in
+    let hs = take (a .n) (a .t2) in
+    let k = t .loop .k in
+    let h : k - 1 < a .n = omega arith in
+    let g = s .pre .2 in (
+      s .pre .0,
+      rw (getD-take (a .n) (a .t2) (k - 1) _ h) at (g .each (k - 1) (omega (arith, long s))),
+      rw (t .loop .inv .1) (fair-deck (a .l .0) (drop k hs) (good-from (a .l .0) hs k g)),
+    ))
+    (λ c. search needs)
+    (λ c.
+    let t = c .before .before .before in
+    let s = t .before .before in
+    let a = s .args in
+    let hs = take (a .n) (a .t2) in
+    let k = t .loop .k in
+    let h : k - 1 < a .n = omega arith in
+    let m : k - 1 < length hs = omega (arith, long s) in
+    let n : suc (k - 1) ≡ k = omega arith in
+    let e : houseAt (a .t2) (k - 1) ∷ drop k hs ≡ drop (k - 1) hs =
+    sym (rw (getD-take (a .n) (a .t2) (k - 1) (houseAt [] 0) h, n) at (drop-cons hs (k - 1) (houseAt [] 0) m)) in (
+      omega arith,
+      c .with-house .ensures
+          ∙ ap (deckWith (a .l .0) (houseAt (a .t2) (k - 1))) (t .loop .inv .1)
+          ∙ deck-with (a .l .0) (houseAt (a .t2) (k - 1)) (drop k hs)
+          ∙ ap (deckOf (a .l .0)) e,
+    ))
+    (λ c.
+    let t = c .before in
+    let s = t .before .before in
+    let a = s .args in
+    let hs = take (a .n) (a .t2) in
+    let z : t .loop .k ≡ 0 = omega arith in
+    let e : t .loop .d ≡ deckOf (a .l .0) hs = t .loop .inv .1 ∙ ap (λ (k : ℕ). deckOf (a .l .0) (drop k hs)) z in
+    (e, rw e (fair-deck (a .l .0) hs (s .pre .2)))))

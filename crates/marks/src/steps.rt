@@ -56,6 +56,7 @@ fn table_line(b: bool, l: Span) -> Freeboard
     table28::tabular_a(l)
 }
 
+// A ship's hull.
 pub fn hull_of(x: Ship) -> Hull
     requires { ⌜ Sound x ⌝ }
     ensures { λ r. ⌜ r ≡ hullOf x ⌝ }

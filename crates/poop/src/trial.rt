@@ -38,6 +38,7 @@ fn room_of(x: Ship) -> u64
     whole::less(h.aft.0, AP)
 }
 
+// All of that, for a ship and what is asked.
 pub fn standing_of(x: Ship, height: u64, wish: u64) -> Standing
     requires { ⌜ Sound x × (1 ≤ height) × (height ≤ 8191) ⌝ }
     ensures { λ r. ⌜ r ≡ standingOf x height wish ⌝ }

@@ -31,8 +31,8 @@ pub fn of_ship(x: Ship) -> Answer
     let o = mark::follow(50, depth, s, l, x.displacement, x.immersion);
     match o {
         Outcome::Given(m) => Answer::Given(m),
-        Outcome::NoDraught => Answer::Refused(Refusal::Summer),
-        Outcome::FreshAllowance => Answer::Refused(Refusal::Fresh),
+        Outcome::NoDraught => Answer::Refused(Refusal::NoDraught),
+        Outcome::FreshAllowance => Answer::Refused(Refusal::FreshAllowance),
     }
 }
 

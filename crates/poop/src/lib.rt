@@ -41,7 +41,7 @@ fn shortest(x: Ship, height: u64, wish: u64) -> Answer
         }
         k += 1;
     }
-    Answer::Refused(Refusal::NoLength)
+    Answer::Refused(Refusal::NoLengthFits)
 }
 
 // The question on a ship that the reader accepts: refusals 14 to 16.
@@ -50,10 +50,10 @@ pub fn of_ship(x: Ship, height: u64, wish: u64) -> Answer
     ensures { λ r. ⌜ reply r ≡ replyFor x height wish ⌝ }
 {
     if (height < 1) | (8191 < height) | (wish < 50) | (60000 < wish) {
-        return Answer::Refused(Refusal::Asked);
+        return Answer::Refused(Refusal::QuestionRange);
     }
     if no_room(x) {
-        return Answer::Refused(Refusal::NoRoom);
+        return Answer::Refused(Refusal::NoRoomForPoop);
     }
     shortest(x, height, wish)
 }

@@ -109,25 +109,25 @@ fn frame(s: &[u8]) -> Verdict
     ensures { λ v. ⌜ paper v ≡ first (frameLines (now (s .entry))) ⌝ }
 {
     if s.len() < 27 {
-        return Verdict::Refused(Refusal::Short);
+        return Verdict::Refused(Refusal::ShortRecord);
     }
     let f = first_in(s);
     if f[0] != 1 {
         return Verdict::Refused(Refusal::Version);
     }
     if f[1] > 1 {
-        return Verdict::Refused(Refusal::Kind);
+        return Verdict::Refused(Refusal::ShipType);
     }
     let n = f[2];
     if n > 8 {
-        return Verdict::Refused(Refusal::Count);
+        return Verdict::Refused(Refusal::HouseCount);
     }
     if s.len() as u64 != 27 + 8 * n {
-        return Verdict::Refused(Refusal::Size);
+        return Verdict::Refused(Refusal::RecordLength);
     }
     let k = first_spare(s, n as usize);
     if (f[3] != 0) | (k < n as usize) {
-        return Verdict::Refused(Refusal::Spare);
+        return Verdict::Refused(Refusal::SpareBit);
     }
     Verdict::Accepted
 }

@@ -150,16 +150,16 @@ pub fn write(buf: &mut [u8], x: Ship) -> Verdict
     ensures { λ v. ⌜ now (buf .exit) ≡ written (paper v) x (now (buf .entry)) ⌝ }
 {
     if x.kind > 1 {
-        return Verdict::Refused(Refusal::Kind);
+        return Verdict::Refused(Refusal::ShipType);
     }
     if x.n > 8 {
-        return Verdict::Refused(Refusal::Count);
+        return Verdict::Refused(Refusal::HouseCount);
     }
     let v = checks::of_ship(x);
     match v {
         Verdict::Accepted => {
             if buf.len() < 27 + 8 * x.n {
-                return Verdict::Refused(Refusal::Buffer);
+                return Verdict::Refused(Refusal::ShortBuffer);
             }
             put_record(buf, x);
             Verdict::Accepted

@@ -5,7 +5,7 @@ use Rattle.ship.specs.declared.refusal.Refusal.{Refusal}
 use mathlib.Core.List.{[], _∷_}
 use mathlib.Core.Path.{_≡_, refl, sym, ap, _∙_}
 use lib.ListN.{getD}
-use Rattle.ship.specs.declared.refusal.Refusal.the-variants.{Short, Version, Kind, Count, Size, Spare, Field, Certified, Ends, Quarterdeck, Overlap, Summer, Fresh, Asked, NoRoom, NoLength, Buffer}
+use Rattle.ship.specs.declared.refusal.Refusal.the-variants.{ShortRecord, Version, ShipType, HouseCount, RecordLength, SpareBit, FieldRange, HalfCertified, HouseExtent, Quarterdeck, Overlap, NoDraught, FreshAllowance, QuestionRange, NoRoomForPoop, NoLengthFits, ShortBuffer}
 use Rattle.ship.specs.declared.refusal.Verdict.{Verdict}
 use Rattle.ship.specs.declared.refusal.Verdict.the-variants.{Accepted, Refused}
 use Rattle.ship.specs.Refusals.{Paper, paper, numberOf}
@@ -14,52 +14,52 @@ use Rattle.ship.specs.Refusals.{Paper, paper, numberOf}
 verdictOf : Paper → Verdict
 verdictOf p =
     getD
-    (Accepted ∷ Refused Short ∷ Refused Version ∷ Refused Kind ∷ Refused Count ∷ Refused Size ∷ Refused Spare ∷ Refused (Field (p .place)) ∷ Refused Certified
-    ∷ Refused (Ends (p .place)) ∷ Refused (Quarterdeck (p .place)) ∷ Refused (Overlap (p .place))
-    ∷ Refused Summer ∷ Refused Fresh ∷ Refused Asked ∷ Refused NoRoom ∷ Refused NoLength ∷ Refused Buffer ∷ [])
+    (Accepted ∷ Refused ShortRecord ∷ Refused Version ∷ Refused ShipType ∷ Refused HouseCount ∷ Refused RecordLength ∷ Refused SpareBit ∷ Refused (FieldRange (p .place)) ∷ Refused HalfCertified
+    ∷ Refused (HouseExtent (p .place)) ∷ Refused (Quarterdeck (p .place)) ∷ Refused (Overlap (p .place))
+    ∷ Refused NoDraught ∷ Refused FreshAllowance ∷ Refused QuestionRange ∷ Refused NoRoomForPoop ∷ Refused NoLengthFits ∷ Refused ShortBuffer ∷ [])
     (p .number)
     Accepted
 
 back : (v : Verdict) → verdictOf (paper v) ≡ v
 unfolding verdictOf
 back Accepted = refl
-back (Refused Short) = refl
+back (Refused ShortRecord) = refl
 back (Refused Version) = refl
-back (Refused Kind) = refl
-back (Refused Count) = refl
-back (Refused Size) = refl
-back (Refused Spare) = refl
-back (Refused (Field k)) = refl
-back (Refused Certified) = refl
-back (Refused (Ends k)) = refl
+back (Refused ShipType) = refl
+back (Refused HouseCount) = refl
+back (Refused RecordLength) = refl
+back (Refused SpareBit) = refl
+back (Refused (FieldRange k)) = refl
+back (Refused HalfCertified) = refl
+back (Refused (HouseExtent k)) = refl
 back (Refused (Quarterdeck k)) = refl
 back (Refused (Overlap k)) = refl
-back (Refused Summer) = refl
-back (Refused Fresh) = refl
-back (Refused Asked) = refl
-back (Refused NoRoom) = refl
-back (Refused NoLength) = refl
-back (Refused Buffer) = refl
+back (Refused NoDraught) = refl
+back (Refused FreshAllowance) = refl
+back (Refused QuestionRange) = refl
+back (Refused NoRoomForPoop) = refl
+back (Refused NoLengthFits) = refl
+back (Refused ShortBuffer) = refl
 
 pub one-verdict : (v w : Verdict) → paper v ≡ paper w → v ≡ w
 one-verdict v w e = sym (back v) ∙ ap verdictOf e ∙ back w
 
 -- no refusal has the number 0, which means acceptance
 pub number-above-0 : (r : Refusal) → 0 < numberOf r
-number-above-0 Short = omega arith
+number-above-0 ShortRecord = omega arith
 number-above-0 Version = omega arith
-number-above-0 Kind = omega arith
-number-above-0 Count = omega arith
-number-above-0 Size = omega arith
-number-above-0 Spare = omega arith
-number-above-0 (Field k) = omega arith
-number-above-0 Certified = omega arith
-number-above-0 (Ends k) = omega arith
+number-above-0 ShipType = omega arith
+number-above-0 HouseCount = omega arith
+number-above-0 RecordLength = omega arith
+number-above-0 SpareBit = omega arith
+number-above-0 (FieldRange k) = omega arith
+number-above-0 HalfCertified = omega arith
+number-above-0 (HouseExtent k) = omega arith
 number-above-0 (Quarterdeck k) = omega arith
 number-above-0 (Overlap k) = omega arith
-number-above-0 Summer = omega arith
-number-above-0 Fresh = omega arith
-number-above-0 Asked = omega arith
-number-above-0 NoRoom = omega arith
-number-above-0 NoLength = omega arith
-number-above-0 Buffer = omega arith
+number-above-0 NoDraught = omega arith
+number-above-0 FreshAllowance = omega arith
+number-above-0 QuestionRange = omega arith
+number-above-0 NoRoomForPoop = omega arith
+number-above-0 NoLengthFits = omega arith
+number-above-0 ShortBuffer = omega arith

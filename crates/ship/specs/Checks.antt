@@ -5,7 +5,7 @@ use mathlib.Core.List.{List, [], _∷_, _++_}
 use lib.Dec.{eqb, ltb, leb}
 use lib.ListN.{length, getD}
 use Rattle.whole.specs.Pick.{pick}
-use Rattle.units.specs.Datum.{stationOf}
+use Rattle.units.specs.Datum.{stationOf, lift, sheerAt}
 use Rattle.ship.specs.declared.House.{House}
 use Rattle.ship.specs.declared.Ship.{Ship}
 use Rattle.ship.specs.declared.checks.Rule.{Rule}
@@ -18,19 +18,24 @@ unfoldable pub firstFrom : (ℕ → Bool) → ℕ → ℕ → ℕ
 firstFrom fails k zero = k
 firstFrom fails k (suc m) = pick (fails k) k (firstFrom fails (k + 1) m)
 
--- fields 1 to 13; the sheer is lifted by 8192 mm
+-- fields 1 to 13; an ordinate of sheer by its lifted number
 abbrev pub fieldsOf : Ship → List ℕ
 fieldsOf x =
     x .length .0 ∷ x .depth .0 ∷ x .moulded .0 ∷ x .block ∷ x .waterplane
-    ∷ getD (x .sheer) 0 0 ∷ getD (x .sheer) 1 0 ∷ getD (x .sheer) 2 0 ∷ getD (x .sheer) 3 0 ∷ getD (x .sheer) 4 0 ∷ getD (x .sheer) 5 0
+    ∷ sheerAt (x .sheer) 0 ∷ sheerAt (x .sheer) 1 ∷ sheerAt (x .sheer) 2 ∷ sheerAt (x .sheer) 3 ∷ sheerAt (x .sheer) 4 ∷ sheerAt (x .sheer) 5
     ∷ x .displacement ∷ x .immersion ∷ []
+
+-- the highest ordinate of fourteen bits: 8191 mm of sheer
+abbrev pub highest : ℕ
+highest = lift + lift - 1
 
 -- the ranges of fields 1 to 13, or of their bits
 abbrev pub least : List ℕ
 least = 24000 ∷ 1000 ∷ 1000 ∷ 1 ∷ 1 ∷ 0 ∷ 0 ∷ 0 ∷ 0 ∷ 0 ∷ 0 ∷ 0 ∷ 0 ∷ []
 
 abbrev pub most : List ℕ
-most = 365000 ∷ 60000 ∷ 60000 ∷ 12000 ∷ 10000 ∷ 16383 ∷ 16383 ∷ 16383 ∷ 16383 ∷ 16383 ∷ 16383 ∷ 1048575 ∷ 65535 ∷ []
+most =
+    365000 ∷ 60000 ∷ 60000 ∷ 12000 ∷ 10000 ∷ highest ∷ highest ∷ highest ∷ highest ∷ highest ∷ highest ∷ 1048575 ∷ 65535 ∷ []
 
 -- 7: a field outside its range or bits
 abbrev pub outside : List ℕ → ℕ → Bool

@@ -3,8 +3,8 @@ use Prim.Native.Nat.{ℕ, _+_, _-_, _≤_, _<_}
 use mathlib.Core.Bool.{true}
 use mathlib.Core.Path.{_≡_}
 use mathlib.Core.List.{List}
-use lib.ListN.{length, getD}
-use Rattle.units.specs.Datum.{stationOf}
+use lib.ListN.{length}
+use Rattle.units.specs.Datum.{stationOf, Lifted}
 use Rattle.ship.specs.declared.House.{House}
 use Rattle.ship.specs.declared.Ship.{Ship}
 use Rattle.ship.specs.Vessel.{housesOf, houseAt}
@@ -37,12 +37,7 @@ pub record Good (x : Ship) : Type 0 where
   pub block-most : x .block ≤ 12000
   pub waterplane-least : 1 ≤ x .waterplane
   pub waterplane-most : x .waterplane ≤ 10000
-  pub sheer-0 : getD (x .sheer) 0 0 < 16384
-  pub sheer-1 : getD (x .sheer) 1 0 < 16384
-  pub sheer-2 : getD (x .sheer) 2 0 < 16384
-  pub sheer-3 : getD (x .sheer) 3 0 < 16384
-  pub sheer-4 : getD (x .sheer) 4 0 < 16384
-  pub sheer-5 : getD (x .sheer) 5 0 < 16384
+  pub sheer : Lifted (x .sheer)
   pub displacement : x .displacement < 1048576
   pub immersion : x .immersion < 65536
   pub certified : (0 < x .displacement → 0 < x .immersion) × (0 < x .immersion → 0 < x .displacement)

@@ -4,7 +4,7 @@ use mathlib.Core.Bool.{Bool}
 use mathlib.Core.List.{List, [], _∷_}
 use Rattle.whole.specs.Pick.{pick}
 use Rattle.ship.specs.declared.refusal.Refusal.{Refusal}
-use Rattle.ship.specs.declared.refusal.Refusal.the-variants.{Short, Version, Kind, Count, Size, Spare, Field, Certified, Ends, Quarterdeck, Overlap, Summer, Fresh, Asked, NoRoom, NoLength, Buffer}
+use Rattle.ship.specs.declared.refusal.Refusal.the-variants.{ShortRecord, Version, ShipType, HouseCount, RecordLength, SpareBit, FieldRange, HalfCertified, HouseExtent, Quarterdeck, Overlap, NoDraught, FreshAllowance, QuestionRange, NoRoomForPoop, NoLengthFits, ShortBuffer}
 use Rattle.ship.specs.declared.refusal.Verdict.{Verdict}
 use Rattle.ship.specs.declared.refusal.Verdict.the-variants.{Accepted, Refused}
 
@@ -21,43 +21,43 @@ refused n p = record { number = n; place = p }
 
 -- 01's number for each case
 abbrev pub numberOf : Refusal → ℕ
-numberOf Short = 1
+numberOf ShortRecord = 1
 numberOf Version = 2
-numberOf Kind = 3
-numberOf Count = 4
-numberOf Size = 5
-numberOf Spare = 6
-numberOf (Field k) = 7
-numberOf Certified = 8
-numberOf (Ends k) = 9
+numberOf ShipType = 3
+numberOf HouseCount = 4
+numberOf RecordLength = 5
+numberOf SpareBit = 6
+numberOf (FieldRange k) = 7
+numberOf HalfCertified = 8
+numberOf (HouseExtent k) = 9
 numberOf (Quarterdeck k) = 10
 numberOf (Overlap k) = 11
-numberOf Summer = 12
-numberOf Fresh = 13
-numberOf Asked = 14
-numberOf NoRoom = 15
-numberOf NoLength = 16
-numberOf Buffer = 17
+numberOf NoDraught = 12
+numberOf FreshAllowance = 13
+numberOf QuestionRange = 14
+numberOf NoRoomForPoop = 15
+numberOf NoLengthFits = 16
+numberOf ShortBuffer = 17
 
 -- and its place: 0 unless named
 abbrev pub placeOf : Refusal → ℕ
-placeOf Short = 0
+placeOf ShortRecord = 0
 placeOf Version = 0
-placeOf Kind = 0
-placeOf Count = 0
-placeOf Size = 0
-placeOf Spare = 0
-placeOf (Field k) = k
-placeOf Certified = 0
-placeOf (Ends k) = k
+placeOf ShipType = 0
+placeOf HouseCount = 0
+placeOf RecordLength = 0
+placeOf SpareBit = 0
+placeOf (FieldRange k) = k
+placeOf HalfCertified = 0
+placeOf (HouseExtent k) = k
 placeOf (Quarterdeck k) = k
 placeOf (Overlap k) = k
-placeOf Summer = 0
-placeOf Fresh = 0
-placeOf Asked = 0
-placeOf NoRoom = 0
-placeOf NoLength = 0
-placeOf Buffer = 0
+placeOf NoDraught = 0
+placeOf FreshAllowance = 0
+placeOf QuestionRange = 0
+placeOf NoRoomForPoop = 0
+placeOf NoLengthFits = 0
+placeOf ShortBuffer = 0
 
 abbrev pub paper : Verdict → Paper
 paper Accepted = accepted

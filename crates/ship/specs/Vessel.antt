@@ -4,13 +4,9 @@ use mathlib.Core.List.{List, _++_}
 use mathlib.Core.Path.{_≡_}
 use mathlib.Core.Bool.{false}
 use lib.ListN.{take, replicate, getD}
-use Rattle.units.specs.Datum.{datum}
+use Rattle.units.specs.Datum.{datum, lift}
 use Rattle.ship.specs.declared.House.{House}
 use Rattle.ship.specs.declared.Ship.{Ship}
-
--- 0 mm of sheer, lifted so that no ordinate is below zero
-abbrev pub lift : ℕ
-lift = 8192
 
 -- places beyond n read as zero
 abbrev pub noHouse : House
@@ -26,7 +22,7 @@ noShip = record {
   moulded = record { 0 = 0 };
   block = 0;
   waterplane = 0;
-  sheer = replicate 6 lift;
+  sheer = replicate 6 (record { 0 = lift });
   displacement = 0;
   immersion = 0;
   houses = replicate 8 noHouse;

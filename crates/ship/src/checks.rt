@@ -4,7 +4,7 @@ ghost use mathlib.Core.Path.{_≡_};
 ghost use Prim.Native.Nat.{_≤_, _<_, _+_};
 ghost use lib.ListN.{length, take};
 ghost use Rattle.ship.specs.Refusals.{paper, first};
-ghost use Rattle.ship.specs.Checks.{fieldsOf, fieldOut, breaks, firstBreach, houseLines, shipLines};
+ghost use Rattle.ship.specs.Checks.{fieldsOf, fieldOut, breaks, badEnds, badQuarterdeck, firstBreach, houseLines, shipLines};
 ghost use Rattle.ship.specs.declared.checks.Rule.{Rule};
 ghost use Rattle.ship.specs.declared.checks.Rule.the-variants.{EndsAndHeight, RaisedQuarterdeck, NoOverlap};
 use crate::House;
@@ -12,10 +12,14 @@ use crate::Ship;
 use crate::refusal;
 use crate::refusal::Refusal;
 use crate::refusal::Verdict;
-use units::AP;
+use units::LIFT;
 use units::Span;
+use units::Station;
 
-// The ranges of fields 1 to 13, or of their bits; the sheer is lifted by 8192 mm.
+// The highest ordinate of fourteen bits: 8191 mm of sheer.
+const HIGHEST: u64 = 2 * LIFT - 1;
+
+// The ranges of fields 1 to 13, or of their bits.
 const LEAST: [u64; 13] = [24000, 1000, 1000, 1, 1, 0, 0, 0, 0, 0, 0, 0, 0];
 
 const MOST: [u64; 13] = [
@@ -24,12 +28,12 @@ const MOST: [u64; 13] = [
     60000,
     12000,
     10000,
-    16383,
-    16383,
-    16383,
-    16383,
-    16383,
-    16383,
+    HIGHEST,
+    HIGHEST,
+    HIGHEST,
+    HIGHEST,
+    HIGHEST,
+    HIGHEST,
     1048575,
     65535,
 ];
@@ -44,12 +48,12 @@ fn fields(x: Ship) -> [u64; 13]
         x.moulded.0,
         x.block,
         x.waterplane,
-        s[0],
-        s[1],
-        s[2],
-        s[3],
-        s[4],
-        s[5],
+        s[0].0,
+        s[1].0,
+        s[2].0,
+        s[3].0,
+        s[4].0,
+        s[5].0,
         x.displacement,
         x.immersion,
     ]
@@ -59,10 +63,12 @@ fn fields(x: Ship) -> [u64; 13]
 fn field_out(fields: [u64; 13]) -> usize
     ensures { λ r. ⌜ (r ≡ fieldOut fields) × (r ≤ 13) ⌝ }
 {
+    let least = LEAST;
+    let most = MOST;
     let mut k = 0;
     while k < 13 {
         let v = fields[k];
-        if (v < LEAST[k]) | (MOST[k] < v) {
+        if (v < least[k]) | (most[k] < v) {
             return k;
         }
         k += 1;
@@ -70,8 +76,8 @@ fn field_out(fields: [u64; 13]) -> usize
     k
 }
 
-// 20 m abaft the after perpendicular.
-const AFT_MOST: u64 = AP - 20000;
+// How far a house may stand out beyond either perpendicular.
+const BEYOND: u64 = 20000;
 
 // What checks 9, 10 and 11 ask of a house.
 pub enum Rule {
@@ -80,51 +86,77 @@ pub enum Rule {
     NoOverlap,
 }
 
-// Whether a house breaks a rule; `before` is the fore end of the house before it.
-fn house_breaks(rule: Rule, l: u64, before: u64, h: House) -> bool
-    requires { ⌜ l ≤ 365000 ⌝ }
-    ensures { λ r. ⌜ r ≡ breaks rule l before h ⌝ }
+// Check 9 on one house: its ends and its height.
+fn bad_ends(l: Span, h: House) -> bool
+    requires { ⌜ l .0 ≤ 365000 ⌝ }
+    ensures { λ r. ⌜ r ≡ badEnds (l .0) h ⌝ }
 {
-    let aft = h.aft.0;
-    let fore = h.fore.0;
+    let mm = l.0;
+    let aft = h.aft;
+    let fore = h.fore;
     let height = h.height.0;
+    let ap = units::forward_of_ap(Span(0));
+    let fp = units::forward_of_ap(l);
+    let aft_most = units::abaft_of_ap(Span(BEYOND));
+    let fore_most = units::forward_of_ap(Span(mm + BEYOND));
+    units::is_at_or_abaft(fore, aft)
+        | units::is_at_or_abaft(fore, ap)
+        | units::is_at_or_abaft(fp, aft)
+        | units::is_abaft(aft, aft_most)
+        | units::is_abaft(fore_most, fore)
+        | (height < 1)
+        | (8191 < height)
+}
+
+// Check 10 on one house.
+fn bad_quarterdeck(l: Span, h: House) -> bool
+    requires { ⌜ l .0 ≤ 365000 ⌝ }
+    ensures { λ r. ⌜ r ≡ badQuarterdeck (l .0) h ⌝ }
+{
+    let aft = h.aft;
+    let fore = h.fore;
+    let ap = units::forward_of_ap(Span(0));
+    let fp = units::forward_of_ap(l);
+    h.quarterdeck & (!h.enclosed | units::is_abaft(ap, aft) | units::is_at_or_abaft(fp, fore))
+}
+
+// Whether a house breaks a rule; `before` is the fore end of the house before it.
+fn house_breaks(rule: Rule, l: Span, before: Station, h: House) -> bool
+    requires { ⌜ l .0 ≤ 365000 ⌝ }
+    ensures { λ r. ⌜ r ≡ breaks rule (l .0) (before .0) h ⌝ }
+{
     match rule {
-        Rule::EndsAndHeight => {
-            (fore <= aft)
-                | (fore <= AP)
-                | (AP + l <= aft)
-                | (aft < AFT_MOST)
-                | (AP + (l + 20000) < fore)
-                | (height < 1)
-                | (8191 < height)
+        Rule::EndsAndHeight => bad_ends(l, h),
+        Rule::RaisedQuarterdeck => bad_quarterdeck(l, h),
+        Rule::NoOverlap => {
+            let aft = h.aft;
+            units::is_abaft(aft, before)
         }
-        Rule::RaisedQuarterdeck => h.quarterdeck & (!h.enclosed | (AP < aft) | (AP + l <= fore)),
-        Rule::NoOverlap => aft < before,
     }
 }
 
 // The first of `n` houses that breaks a rule, or `n`.
-fn first_breach(rule: Rule, l: u64, houses: [House; 8], n: usize) -> usize
-    requires { ⌜ (l ≤ 365000) × (n ≤ 8) ⌝ }
-    ensures { λ r. ⌜ (r ≡ firstBreach rule l (take n houses)) × (r ≤ 8) ⌝ }
+fn first_breach(rule: Rule, l: Span, houses: [House; 8], n: usize) -> usize
+    requires { ⌜ (l .0 ≤ 365000) × (n ≤ 8) ⌝ }
+    ensures { λ r. ⌜ (r ≡ firstBreach rule (l .0) (take n houses)) × (r ≤ 8) ⌝ }
 {
-    let mut before: u64 = 0;
+    let mut before = Station(0);
     let mut k = 0;
     while k < n {
         let h = houses[k];
         if house_breaks(rule, l, before, h) {
             return k;
         }
-        before = h.fore.0;
+        before = h.fore;
         k += 1;
     }
     k
 }
 
 // Whether a house breaks any of the three.
-fn breaks_any(l: u64, before: u64, h: House) -> bool
-    requires { ⌜ l ≤ 365000 ⌝ }
-    ensures { λ r. ⌜ r ≡ (breaks EndsAndHeight l before h || breaks RaisedQuarterdeck l before h || breaks NoOverlap l before h) ⌝ }
+fn breaks_any(l: Span, before: Station, h: House) -> bool
+    requires { ⌜ l .0 ≤ 365000 ⌝ }
+    ensures { λ r. ⌜ r ≡ (breaks EndsAndHeight (l .0) (before .0) h || breaks RaisedQuarterdeck (l .0) (before .0) h || breaks NoOverlap (l .0) (before .0) h) ⌝ }
 {
     let ends = house_breaks(Rule::EndsAndHeight, l, before, h);
     let deck = house_breaks(Rule::RaisedQuarterdeck, l, before, h);
@@ -133,18 +165,18 @@ fn breaks_any(l: u64, before: u64, h: House) -> bool
 }
 
 // Whether all of `n` houses keep the three: most lists do, and one pass shows it.
-fn all_keep(l: u64, houses: [House; 8], n: usize) -> bool
-    requires { ⌜ (l ≤ 365000) × (n ≤ 8) ⌝ }
-    ensures { λ r. ⌜ (r ≡ true → (rule : Rule) → firstBreach rule l (take n houses) ≡ n) ⌝ }
+fn all_keep(l: Span, houses: [House; 8], n: usize) -> bool
+    requires { ⌜ (l .0 ≤ 365000) × (n ≤ 8) ⌝ }
+    ensures { λ r. ⌜ (r ≡ true → (rule : Rule) → firstBreach rule (l .0) (take n houses) ≡ n) ⌝ }
 {
-    let mut before: u64 = 0;
+    let mut before = Station(0);
     let mut k = 0;
     while k < n {
         let h = houses[k];
         if breaks_any(l, before, h) {
             return false;
         }
-        before = h.fore.0;
+        before = h.fore;
         k += 1;
     }
     true
@@ -155,16 +187,15 @@ pub fn of_houses(l: Span, houses: [House; 8], n: usize) -> Verdict
     requires { ⌜ (l .0 ≤ 365000) × (n ≤ 8) ⌝ }
     ensures { λ v. ⌜ paper v ≡ first (houseLines (l .0) (take n houses)) ⌝ }
 {
-    let mm = l.0;
-    if all_keep(mm, houses, n) {
+    if all_keep(l, houses, n) {
         return Verdict::Accepted;
     }
-    let ends = first_breach(Rule::EndsAndHeight, mm, houses, n);
-    let deck = first_breach(Rule::RaisedQuarterdeck, mm, houses, n);
-    let lap = first_breach(Rule::NoOverlap, mm, houses, n);
+    let ends = first_breach(Rule::EndsAndHeight, l, houses, n);
+    let deck = first_breach(Rule::RaisedQuarterdeck, l, houses, n);
+    let lap = first_breach(Rule::NoOverlap, l, houses, n);
     let v = refusal::line(lap < n, Refusal::Overlap(lap), Verdict::Accepted);
     let v = refusal::line(deck < n, Refusal::Quarterdeck(deck), v);
-    refusal::line(ends < n, Refusal::Ends(ends), v)
+    refusal::line(ends < n, Refusal::HouseExtent(ends), v)
 }
 
 // Checks 7 to 11. No later check is safe to work before L is known to be in its range.
@@ -174,14 +205,14 @@ pub fn of_ship(x: Ship) -> Verdict
 {
     let k = field_out(fields(x));
     if k < 13 {
-        return Verdict::Refused(Refusal::Field(k + 1));
+        return Verdict::Refused(Refusal::FieldRange(k + 1));
     }
     let houses = x.houses;
     let l = x.length;
     let v = of_houses(l, houses, x.n);
     refusal::line(
         (x.displacement == 0) != (x.immersion == 0),
-        Refusal::Certified,
+        Refusal::HalfCertified,
         v,
     )
 }

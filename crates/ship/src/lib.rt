@@ -2,6 +2,8 @@
 ghost use mathlib.Core.Path.{_≡_};
 ghost use Rattle.ship.specs.Vessel.{noHouse, noShip};
 use units::AP;
+use units::LIFT;
+use units::Ordinate;
 use units::Span;
 use units::Station;
 
@@ -29,8 +31,8 @@ pub struct Ship {
     // Cb and Cwf, in ten thousandths.
     pub block: u64,
     pub waterplane: u64,
-    // Millimetres above 8192 mm below the deck line, so that none is below zero: AP, L/6, L/3 from AP, L/3, L/6 from FP, FP.
-    pub sheer: [u64; 6],
+    // At AP, L/6, L/3 from AP, then L/3, L/6 from FP, FP.
+    pub sheer: [Ordinate; 6],
     // Tonnes, and hundredths of a tonne per centimetre; both 0 where nothing is certified.
     pub displacement: u64,
     pub immersion: u64,
@@ -56,7 +58,8 @@ pub fn no_ship() -> Ship
 {
     let none = no_house();
     let houses = [none; 8];
-    let sheer = [8192u64; 6];
+    let level = Ordinate(LIFT);
+    let sheer = [level; 6];
     Ship {
         kind: 0,
         n: 0,

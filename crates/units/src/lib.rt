@@ -1,10 +1,12 @@
-// The units that regulation 28 keeps apart, a type for each: none can be added to another,
-// and a number crosses over only in a function of this file.
+// The units that regulation 28 keeps apart, a type for each: none can be added to another. A number crosses from one to another only in a
+// function of this file, or in the function of a regulation's formula, which makes a freeboard of lengths.
 ghost use mathlib.Core.Path.{_≡_};
-ghost use Prim.Native.Nat.{_+_, _*_, _≤_};
-ghost use Rattle.units.specs.Datum.{stationOf};
+ghost use Prim.Native.Nat.{_+_, _-_, _*_, _^_, _≤_, _<_, min, max};
+ghost use lib.Dec.{leb, ltb};
+ghost use Rattle.whole.specs.Divide.{ceilDiv};
+ghost use Rattle.units.specs.Datum.{datum, lift, stationOf, mmOf, stationAt, sheerOf, ordinateAt, countedFrom};
 
-// A place along the ship, in millimetres forward of a datum that lies 2^20 mm abaft the after perpendicular.
+// A place along the ship, in millimetres forward of a datum that lies 2^20 mm abaft the after perpendicular, so that none is below zero.
 pub struct Station(pub u64);
 
 // The after perpendicular's.
@@ -19,6 +21,25 @@ pub struct Effective(pub u64);
 // A freeboard, in micrometres.
 pub struct Freeboard(pub u64);
 
+// An ordinate of sheer, in millimetres above a line that lies 8192 mm below the deck line, so that none is below zero.
+pub struct Ordinate(pub u64);
+
+// The ordinate of no sheer.
+pub const LIFT: u64 = 8192;
+
+// So many millimetres from a zero, negative ones below it and no farther than the number 0.
+fn counted_from(zero: u64, mm: i64) -> u64
+    requires { ⌜ zero ≤ 1048576 ⌝ }
+    ensures { λ r. ⌜ r ≡ countedFrom zero mm ⌝ }
+{
+    let size = whole::size(mm);
+    if whole::below_zero(mm) {
+        return whole::less(zero, size);
+    }
+    zero + size
+}
+
+// ---- stations
 // The station that lies `l` forward of the after perpendicular.
 pub fn forward_of_ap(l: Span) -> Station
     requires { ⌜ l .0 ≤ 1048575 ⌝ }
@@ -28,10 +49,161 @@ pub fn forward_of_ap(l: Span) -> Station
     Station(AP + mm)
 }
 
+// The station that lies `l` abaft it, and no farther than the datum.
+pub fn abaft_of_ap(l: Span) -> Station
+    ensures { λ r. ⌜ r .0 ≡ datum - l .0 ⌝ }
+{
+    Station(whole::less(AP, l.0))
+}
+
+// Whether the first of two stations lies abaft the second.
+pub fn is_abaft(a: Station, b: Station) -> bool
+    ensures { λ r. ⌜ r ≡ ltb (a .0) (b .0) ⌝ }
+{
+    let m = a.0;
+    let n = b.0;
+    m < n
+}
+
+// Whether it lies abaft the second or at it.
+pub fn is_at_or_abaft(a: Station, b: Station) -> bool
+    ensures { λ r. ⌜ r ≡ leb (a .0) (b .0) ⌝ }
+{
+    let m = a.0;
+    let n = b.0;
+    m <= n
+}
+
+// The aftermost of two stations.
+pub fn aftermost(a: Station, b: Station) -> Station
+    ensures { λ r. ⌜ r .0 ≡ min (a .0) (b .0) ⌝ }
+{
+    Station(whole::lesser(a.0, b.0))
+}
+
+// The foremost of two stations.
+pub fn foremost(a: Station, b: Station) -> Station
+    ensures { λ r. ⌜ r .0 ≡ max (a .0) (b .0) ⌝ }
+{
+    Station(whole::greater(a.0, b.0))
+}
+
+// The length from one station forward to another; 0 where that one lies abaft it.
+pub fn between(aft: Station, fore: Station) -> Span
+    ensures { λ r. ⌜ r .0 ≡ fore .0 - aft .0 ⌝ }
+{
+    Span(whole::less(fore.0, aft.0))
+}
+
+// A station in tenths of a millimetre: half a ship's length is whole in these.
+pub fn in_tenths(s: Station) -> u64
+    requires { ⌜ s .0 < 2 ^ 32 ⌝ }
+    ensures { λ r. ⌜ r ≡ 10 * s .0 ⌝ }
+{
+    let mm = s.0;
+    10 * mm
+}
+
+// A station as signed millimetres forward of the after perpendicular.
+pub fn mm_of_station(s: Station) -> i64
+    requires { ⌜ s .0 < 2 ^ 32 ⌝ }
+    ensures { λ r. ⌜ r ≡ mmOf (s .0) ⌝ }
+{
+    whole::minus(s.0, AP)
+}
+
+// And back, for any number.
+pub fn station_of_mm(mm: i64) -> Station
+    ensures { λ r. ⌜ r .0 ≡ stationAt mm ⌝ }
+{
+    Station(counted_from(AP, mm))
+}
+
+// ---- ordinates of sheer
+// An ordinate as signed millimetres of sheer.
+pub fn mm_of_ordinate(o: Ordinate) -> i64
+    requires { ⌜ o .0 < 2 ^ 32 ⌝ }
+    ensures { λ r. ⌜ r ≡ sheerOf (o .0) ⌝ }
+{
+    whole::minus(o.0, LIFT)
+}
+
+// The ordinate of any number of signed millimetres.
+pub fn ordinate_of_mm(mm: i64) -> Ordinate
+    ensures { λ r. ⌜ r .0 ≡ ordinateAt mm ⌝ }
+{
+    if whole::below_zero(mm) & (LIFT < whole::size(mm)) {
+        return Ordinate(2 * LIFT);
+    }
+    Ordinate(counted_from(LIFT, mm))
+}
+
+// Millimetres of sheer above zero, and below it: one of the two is 0.
+pub fn mm_above(o: Ordinate) -> u64
+    ensures { λ r. ⌜ r ≡ o .0 - lift ⌝ }
+{
+    whole::less(o.0, LIFT)
+}
+
+pub fn mm_below(o: Ordinate) -> u64
+    ensures { λ r. ⌜ r ≡ lift - o .0 ⌝ }
+{
+    whole::less(LIFT, o.0)
+}
+
+// ---- effective lengths and freeboards
+// A length in micrometres.
+pub fn effective_of(l: Span) -> Effective
+    requires { ⌜ l .0 ≤ 1048575 ⌝ }
+    ensures { λ r. ⌜ r .0 ≡ 1000 * l .0 ⌝ }
+{
+    let mm = l.0;
+    Effective(1000 * mm)
+}
+
 // The freeboard of `mm` millimetres.
 pub fn freeboard_of_mm(mm: u64) -> Freeboard
     requires { ⌜ mm ≤ 1048575 ⌝ }
     ensures { λ r. ⌜ r .0 ≡ 1000 * mm ⌝ }
 {
     Freeboard(1000 * mm)
+}
+
+// A freeboard in whole millimetres, up.
+pub fn mm_up(f: Freeboard) -> u64
+    requires { ⌜ f .0 ≤ 2 ^ 62 ⌝ }
+    ensures { λ r. ⌜ r ≡ ceilDiv (f .0) 1000 ⌝ }
+{
+    whole::div_up(f.0, 1000)
+}
+
+// The sum of two freeboards.
+pub fn sum(a: Freeboard, b: Freeboard) -> Freeboard
+    requires { ⌜ (a .0 ≤ 2 ^ 62) × (b .0 ≤ 2 ^ 62) ⌝ }
+    ensures { λ r. ⌜ r .0 ≡ a .0 + b .0 ⌝ }
+{
+    let m = a.0;
+    let n = b.0;
+    Freeboard(m + n)
+}
+
+// The first freeboard less the second; 0 where the second is the greater.
+pub fn difference(a: Freeboard, b: Freeboard) -> Freeboard
+    ensures { λ r. ⌜ r .0 ≡ a .0 - b .0 ⌝ }
+{
+    Freeboard(whole::less(a.0, b.0))
+}
+
+// The greater of two freeboards.
+pub fn greater(a: Freeboard, b: Freeboard) -> Freeboard
+    ensures { λ r. ⌜ r .0 ≡ max (a .0) (b .0) ⌝ }
+{
+    Freeboard(whole::greater(a.0, b.0))
+}
+
+// The draught at a mark so many millimetres below the deck line; 0 where the mark would lie below the keel.
+pub fn draught(depth: Span, mark: u64) -> u64
+    ensures { λ r. ⌜ r ≡ depth .0 - mark ⌝ }
+{
+    whole::less(depth.0, mark)
 }

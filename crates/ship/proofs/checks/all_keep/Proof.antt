@@ -20,7 +20,7 @@ use Rattle.ship.proofs.checks.all_keep.Tie as tie
 abbrev Inv-loop : tie.InvT-loop
 Inv-loop l n houses before₀ k₀ before k =
     let hs = take n houses in
-    (k ≤ n) × (before ≡ foreBefore hs k) × ((r : Rule) → firstBreach r l hs ≡ firstFrom (breachAt r l hs) k (n - k))
+    (k ≤ n) × (before .0 ≡ foreBefore hs k) × ((r : Rule) → firstBreach r (l .0) hs ≡ firstFrom (breachAt r (l .0) hs) k (n - k))
 
 abbrev μ-loop : tie.MeasureT-loop
 μ-loop l n houses before₀ k₀ before k = n - k
@@ -35,13 +35,13 @@ each l before h e r =
 keeps : (c : tie.Else1 Inv-loop μ-loop) (r : Rule)
     → let l = c .before .before .before .before in
     let a = l .before .args in
-    breachAt r (a .l) (take (a .n) (a .t2)) (l .loop .k) ≡ false
+    breachAt r (a .l .0) (take (a .n) (a .t2)) (l .loop .k) ≡ false
 unfolding breachAt
 keeps c r =
     let l = c .before .before .before .before in
     let a = l .before .args in
     let h : l .loop .k < a .n = omega arith in
-    rw (← l .loop .inv .1, getD-take (a .n) (a .t2) (l .loop .k) _ h) (each (a .l) (l .loop .before) _ (sym (c .before .breaks-any .ensures) ∙ c .if1 .left) r)
+    rw (← l .loop .inv .1, getD-take (a .n) (a .t2) (l .loop .k) _ h) (each (a .l .0) (l .loop .before .0) _ (sym (c .before .breaks-any .ensures) ∙ c .if1 .left) r)
 
 pub all-keep-spec : {M : Type 1} → statement M
 unfolding firstBreach
@@ -60,15 +60,15 @@ all-keep-spec =
     (λ c. search needs)
     (λ c. search needs)
     (λ c.
-    let l = c .before .before .before .before in
+    let l = c .before .before .before .before .before in
     let a = l .before .args in
     let hs = take (a .n) (a .t2) in
     let h : l .loop .k < a .n = omega arith in (
       omega arith,
       rw (add-one (l .loop .k), getD-take (a .n) (a .t2) (l .loop .k) _ h) refl,
-      λ r. l .loop .inv .2 r ∙ first-pass (breachAt r (a .l) hs) (a .n) (l .loop .k) h (keeps c r),
+      λ r. l .loop .inv .2 r ∙ first-pass (breachAt r (a .l .0) hs) (a .n) (l .loop .k) h (keeps (c .before) r),
     ))
     (λ c. λ e r.
     let l = c .before in
     let a = l .before .args in
-    l .loop .inv .2 r ∙ first-end (breachAt r (a .l) (take (a .n) (a .t2))) (a .n) (l .loop .k) (omega arith) ∙ omega arith))
+    l .loop .inv .2 r ∙ first-end (breachAt r (a .l .0) (take (a .n) (a .t2))) (a .n) (l .loop .k) (omega arith) ∙ omega arith))

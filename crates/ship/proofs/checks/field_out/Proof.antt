@@ -9,10 +9,10 @@ use Rattle.ship.proofs.checks.field_out.Statement.{statement}
 use Rattle.ship.proofs.checks.field_out.Tie as tie
 
 abbrev Inv-loop : tie.InvT-loop
-Inv-loop fields k₀ k = (k ≤ 13) × (fieldOut fields ≡ firstFrom (outside fields) k (13 - k))
+Inv-loop fields least most k₀ k = (k ≤ 13) × (fieldOut fields ≡ firstFrom (outside fields) k (13 - k))
 
 abbrev μ-loop : tie.MeasureT-loop
-μ-loop fields k₀ k = 13 - k
+μ-loop fields least most k₀ k = 13 - k
 
 pub field-out-spec : {M : Type 1} → statement M
 unfolding fieldOut

@@ -15,7 +15,7 @@ use Rattle.ship.proofs.checks.first_breach.Tie as tie
 abbrev Inv-loop : tie.InvT-loop
 Inv-loop rule l n houses before₀ k₀ before k =
     let hs = take n houses in
-    (k ≤ n) × (before ≡ foreBefore hs k) × (firstBreach rule l hs ≡ firstFrom (breachAt rule l hs) k (n - k))
+    (k ≤ n) × (before .0 ≡ foreBefore hs k) × (firstBreach rule (l .0) hs ≡ firstFrom (breachAt rule (l .0) hs) k (n - k))
 
 abbrev μ-loop : tie.MeasureT-loop
 μ-loop rule l n houses before₀ k₀ before k = n - k
@@ -24,7 +24,7 @@ abbrev μ-loop : tie.MeasureT-loop
 told : (c : tie.After-house-breaks Inv-loop μ-loop)
     → let l = c .before .before .before in
     let a = l .before .args in
-    c .house-breaks .result ≡ breachAt (a .rule) (a .l) (take (a .n) (a .t3)) (l .loop .k)
+    c .house-breaks .result ≡ breachAt (a .rule) (a .l .0) (take (a .n) (a .t3)) (l .loop .k)
 unfolding breachAt
 told c =
     let l = c .before .before .before in
@@ -49,20 +49,20 @@ first-breach-spec =
     let l = c .before .before .before .before in
     let a = l .before .args in
     let e = sym (told (c .before)) ∙ c .if1 .taken in
-    (sym (l .loop .inv .2 ∙ first-fail (breachAt (a .rule) (a .l) (take (a .n) (a .t3))) (a .n) (l .loop .k) (omega arith) e), omega arith))
+    (sym (l .loop .inv .2 ∙ first-fail (breachAt (a .rule) (a .l .0) (take (a .n) (a .t3))) (a .n) (l .loop .k) (omega arith) e), omega arith))
     (λ c. search needs)
     (λ c. search needs)
     (λ c.
-    let l = c .before .before .before .before in
+    let l = c .before .before .before .before .before in
     let a = l .before .args in
     let hs = take (a .n) (a .t3) in
     let h : l .loop .k < a .n = omega arith in
-    let e = sym (told (c .before)) ∙ c .if1 .left in (
+    let e = sym (told (c .before .before)) ∙ c .before .if1 .left in (
       omega arith,
       rw (add-one (l .loop .k), getD-take (a .n) (a .t3) (l .loop .k) _ h) refl,
-      l .loop .inv .2 ∙ first-pass (breachAt (a .rule) (a .l) hs) (a .n) (l .loop .k) h e,
+      l .loop .inv .2 ∙ first-pass (breachAt (a .rule) (a .l .0) hs) (a .n) (l .loop .k) h e,
     ))
     (λ c.
     let l = c .before in
     let a = l .before .args in
-    (sym (l .loop .inv .2 ∙ first-end (breachAt (a .rule) (a .l) (take (a .n) (a .t3))) (a .n) (l .loop .k) (omega arith)), omega arith)))
+    (sym (l .loop .inv .2 ∙ first-end (breachAt (a .rule) (a .l .0) (take (a .n) (a .t3))) (a .n) (l .loop .k) (omega arith)), omega arith)))

@@ -1,5 +1,4 @@
 -- Each arm is its rule's own text.
-use mathlib.Core.Path.{refl}
 use borrow.Author.Needs.{needs}
 use Rattle.ship.specs.Checks.{breaks}
 use Rattle.ship.proofs.checks.house_breaks.Statement.{statement}
@@ -11,12 +10,11 @@ house-breaks-spec =
     tie.close
     (tie.spec
     (λ c. search needs)
+    (λ c κs. search needs)
     (λ c. search needs)
+    (λ c κs. search needs)
     (λ c. search needs)
-    (λ c. search needs)
-    (λ c. search needs)
-    (λ c. search needs)
-    (λ c. search needs)
-    (λ c. rw (c .enum-told .given .1) refl)
-    (λ c. rw (c .before .before .enum-told2 .given .1) refl)
-    (λ c. rw (c .enum-told3 .given .1) refl))
+    (λ c κs. search needs)
+    (λ c. rw (c .before .enum-told .given .1) (c .bad-ends .ensures))
+    (λ c. rw (c .before .enum-told2 .given .1) (c .bad-quarterdeck .ensures))
+    (λ c. rw (c .before .before .enum-told3 .given .1) (c .is-abaft .ensures)))

@@ -8,11 +8,10 @@ use borrow.Author.Tests.{le-leb, lt-leb}
 use lib.Dec.{leb}
 use Rattle.whole.specs.Pick.{pick}
 use Rattle.whole.proofs.Pick.{by-cases}
-use Rattle.whole.specs.Frac.{_≤f_, whole}
 use Rattle.ship.specs.declared.House.{House}
 use Rattle.ship.specs.Good.{GoodHouses}
 use Rattle.houses.specs.Length.{total}
-use Rattle.houses.specs.Cover.{amidships, isAmidships, reachOf, reach, exactCover}
+use Rattle.houses.specs.Cover.{amidships, isAmidships, reachOf, reach}
 use Rattle.houses.proofs.Order.{InOrder, in-order}
 
 -- what houses from the station m on can reach
@@ -64,7 +63,3 @@ unfolding reach left
 reach-most l hs g =
     let p : left l 0 ≤ 2 * l = by-cases (λ (n : ℕ). n ≤ 2 * l) (leb (10 * 0) (amidships l)) _ _ (λ t. omega arith) (λ t. omega arith) in
     omega (arith, reach-from l 0 hs (in-order g))
-
-pub cover-most : (l : ℕ) (hs : List House) → 0 < l → GoodHouses l hs → exactCover l hs ≤f whole 1
-unfolding exactCover
-cover-most l hs p g = omega (arith, reach-most l hs g)

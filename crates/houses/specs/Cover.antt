@@ -4,7 +4,6 @@ use mathlib.Core.Bool.{Bool, _&&_}
 use mathlib.Core.List.{List}
 use lib.Dec.{leb}
 use Rattle.whole.specs.Pick.{pick}
-use Rattle.whole.specs.Frac.{Frac, frac}
 use Rattle.units.specs.Datum.{stationOf}
 use Rattle.ship.specs.declared.House.{House}
 use Rattle.houses.specs.Length.{total}
@@ -21,10 +20,6 @@ isAmidships l h = h .enclosed && leb (10 * h .aft .0) (amidships l) && leb (amid
 unfoldable pub reachOf : ℕ → House → ℕ
 reachOf l h = pick (isAmidships l h) (min (10 * h .fore .0 - amidships l) l + min (amidships l - 10 * h .aft .0) l) 0
 
--- if two touch at L/2, both reaches count; none: 0
+-- if two touch at L/2, both reaches count; none: 0. The cover is the reach over 0.2 L (sheer)
 unfoldable pub reach : ℕ → List House → ℕ
 reach l hs = total (reachOf l) hs
-
--- over 0.2 L
-unfoldable pub exactCover : ℕ → List House → Frac
-exactCover l hs = frac (reach l hs) (2 * l)

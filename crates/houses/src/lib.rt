@@ -1,5 +1,5 @@
 // A house on the freeboard deck (33 to 35): its length, standard height and effective length; whether it is the forecastle; its reach in 38's cover
-// amidships. marks::steps sums them over a deck.
+// amidships. `deck` sums them.
 ghost use mathlib.Core.Path.{_≡_};
 ghost use Prim.Native.Nat.{_+_, _*_, _≤_};
 ghost use Rattle.whole.specs.Frac.{frac, _≈f_};
@@ -10,15 +10,10 @@ ghost use Rattle.houses.specs.Effective.{limitedLength, effectiveOf};
 ghost use Rattle.houses.specs.Forecastle.{isForecastle};
 ghost use Rattle.houses.specs.Cover.{reachOf};
 use ship::House;
-use units::AP;
 use units::Effective;
 use units::Span;
-use whole::greater;
 use whole::less;
 use whole::lesser;
-
-// The after perpendicular's station in tenths of a mm.
-const TENTHS_TO_AP: u64 = 10 * AP;
 
 // A standard height, size / per mm: unrounded.
 pub struct Standard {
@@ -32,12 +27,12 @@ pub fn part(l: Span, h: House) -> Span
     ensures { λ r. ⌜ r .0 ≡ partOf (l .0) h ⌝ }
     ensures { λ r. ⌜ r .0 ≤ l .0 ⌝ }
 {
-    let mm = l.0;
-    let aft = greater(h.aft.0, AP);
-    let fore = lesser(h.fore.0, AP + mm);
-    let length = less(fore, aft);
+    let ap = units::forward_of_ap(Span(0));
+    let fp = units::forward_of_ap(l);
+    let aft = units::foremost(h.aft, ap);
+    let fore = units::aftermost(h.fore, fp);
     if h.enclosed {
-        return Span(length);
+        return units::between(aft, fore);
     }
     Span(0)
 }
@@ -100,12 +95,11 @@ fn limited_length(l: Span, h: House) -> Effective
     ensures { λ r. ⌜ r .0 ≤ 1000 * l .0 ⌝ }
 {
     let mm = l.0;
-    let p = part(l, h);
-    let um = 1000 * p.0;
+    let um = units::effective_of(part(l, h));
     if h.quarterdeck {
-        return Effective(lesser(um, 600 * mm));
+        return Effective(lesser(um.0, 600 * mm));
     }
-    Effective(um)
+    um
 }
 
 // 35: the effective length of a house, rounded down.
@@ -128,9 +122,10 @@ pub fn reach_of(l: Span, h: House) -> u64
     ensures { λ r. ⌜ r ≤ 2 * l .0 ⌝ }
 {
     let tenth = l.0;
-    let aft = 10 * h.aft.0;
-    let fore = 10 * h.fore.0;
-    let amidships = TENTHS_TO_AP + 5 * tenth;
+    let ap = units::forward_of_ap(Span(0));
+    let aft = units::in_tenths(h.aft);
+    let fore = units::in_tenths(h.fore);
+    let amidships = units::in_tenths(ap) + 5 * tenth;
     if h.enclosed & (aft <= amidships) & (amidships <= fore) {
         return lesser(less(fore, amidships), tenth) + lesser(less(amidships, aft), tenth);
     }
@@ -142,5 +137,6 @@ pub fn is_forecastle(l: Span, h: House) -> bool
     requires { ⌜ l .0 ≤ 365000 ⌝ }
     ensures { λ r. ⌜ r ≡ isForecastle (l .0) h ⌝ }
 {
-    h.enclosed & (AP + l.0 <= h.fore.0)
+    let fp = units::forward_of_ap(l);
+    h.enclosed & units::is_at_or_abaft(fp, h.fore)
 }

@@ -1,20 +1,18 @@
--- 01's number and marks name one outcome: no two outcomes have the same paper.
-use mathlib.Core.Path.{_≡_, refl, sym, ap, _∙_}
-use lib.Dec.{eqb}
-use Rattle.whole.specs.Pick.{pick}
-use Rattle.mark.specs.declared.Outcome.{Outcome}
-use Rattle.mark.specs.declared.Outcome.the-variants.{Given, NoDraught, FreshAllowance}
-use Rattle.mark.specs.Others.{Paper, paper}
+-- 01's number, place and marks name one answer: no two answers have the same sheet.
+use mathlib.Core.Path.{_≡_, sym, ap}
+use native.Mathlib.Omega.{arith}
+use Rattle.ship.specs.declared.refusal.Verdict.the-variants as Verdicts
+use Rattle.ship.specs.Refusals.{numberOf}
+use Rattle.ship.proofs.OneToOne.{one-verdict, number-above-0}
+use Rattle.mark.specs.declared.Answer.{Answer}
+use Rattle.mark.specs.declared.Answer.the-variants.{Given, Refused}
+use Rattle.mark.specs.Others.{Sheet, sheet}
 
--- the outcome that has a paper
-outcomeOf : Paper → Outcome
-outcomeOf p = pick (eqb (p .number) 12) NoDraught (pick (eqb (p .number) 13) FreshAllowance (Given (p .marks)))
-
-back : (v : Outcome) → outcomeOf (paper v) ≡ v
-unfolding pick outcomeOf
-back (Given m) = refl
-back NoDraught = refl
-back FreshAllowance = refl
-
-pub one-outcome : (v w : Outcome) → paper v ≡ paper w → v ≡ w
-one-outcome v w e = sym (back v) ∙ ap outcomeOf e ∙ back w
+pub one-sheet : (a b : Answer) → sheet a ≡ sheet b → a ≡ b
+one-sheet (Given m) (Given n) e = ap Given (ap (λ (t : Sheet). t .marks) e)
+one-sheet (Given m) (Refused r) e = absurd (omega (arith, number-above-0 r, ap (λ (t : Sheet). t .verdict .number) e))
+one-sheet (Refused r) (Given m) e = absurd (omega (arith, number-above-0 r, ap (λ (t : Sheet). t .verdict .number) e))
+one-sheet (Refused r) (Refused q) e =
+    let v : Verdicts.Refused r ≡ Verdicts.Refused q = one-verdict (Verdicts.Refused r) (Verdicts.Refused q) (ap (λ (t : Sheet). t .verdict) e) in
+    let s : r ≡ q = cc in
+    ap Refused s

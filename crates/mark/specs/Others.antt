@@ -1,14 +1,17 @@
 -- 01, "The other marks" (regulation 40): the five that follow from the summer mark S, in mm, with refusals 12 and 13.
 use Prim.Native.Nat.{ℕ, _+_, _*_, _-_, _/_, max}
+use mathlib.Core.List.{List, [], _∷_}
 use lib.Dec.{eqb, leb, ltb}
 use lib.IntN.{pos, _-ℤ_}
 use Rattle.whole.specs.Divide.{ceilDiv}
 use Rattle.whole.specs.Pick.{pick}
+use Rattle.ship.specs.Refusals.{Paper, Line, accepted, refused, numberOf, placeOf, first}
 use Rattle.mark.specs.declared.Marks.{Marks}
-use Rattle.mark.specs.declared.Outcome.{Outcome}
-use Rattle.mark.specs.declared.Outcome.the-variants.{Given, NoDraught, FreshAllowance}
+use Rattle.mark.specs.declared.Particulars.{Particulars}
+use Rattle.mark.specs.declared.Answer.{Answer}
+use Rattle.mark.specs.declared.Answer.the-variants.{Given, Refused}
 
--- ---- d = D - S mark. 40(3), (4): T: S minus d/48 (down), at least the floor
+-- 40(3), (4): T: S minus d/48 (down), at least the floor
 unfoldable pub tropical : ℕ → ℕ → ℕ → ℕ
 tropical floor S d = max floor (S - d / 48)
 
@@ -24,36 +27,45 @@ atlantic W L = pick (leb L 100000) (W + 50) W
 unfoldable pub allowance : ℕ → ℕ → ℕ → ℕ
 allowance displacement immersion d = pick (eqb immersion 0) (d / 48) (25 * displacement / immersion)
 
+-- ---- of a ship by its particulars: d = D - S mark, and the allowance
+abbrev pub draughtAt : Particulars → ℕ → ℕ
+draughtAt p S = p .depth .0 - S
+
+abbrev pub freshAt : Particulars → ℕ → ℕ
+freshAt p S = allowance (p .displacement) (p .immersion) (draughtAt p S)
+
 -- F = S - allowance, TF = T - allowance; these two may be negative
-unfoldable pub sixMarks : ℕ → ℕ → ℕ → ℕ → ℕ → Marks
-sixMarks floor S d L fresh = record {
+unfoldable pub sixMarks : Particulars → ℕ → Marks
+sixMarks p S = record {
   s = S;
-  t = tropical floor S d;
-  w = winter S d;
-  wna = atlantic (winter S d) L;
-  f = pos S -ℤ pos fresh;
-  tf = pos (tropical floor S d) -ℤ pos fresh;
+  t = tropical (p .floor) S (draughtAt p S);
+  w = winter S (draughtAt p S);
+  wna = atlantic (winter S (draughtAt p S)) (p .length .0);
+  f = pos S -ℤ pos (freshAt p S);
+  tf = pos (tropical (p .floor) S (draughtAt p S)) -ℤ pos (freshAt p S);
 }
 
--- ---- an outcome in 01's own terms: number 0 refuses nothing; beside a refusal, whose place is 0, the marks are all zero
-pub record Paper : Type 0 where
-  pub number : ℕ
+-- 12: summer mark at or above D; 13: fresh allowance above summer draught
+abbrev pub markLines : Particulars → ℕ → List Line
+markLines p S = (leb (p .depth .0) S, refused 12 0) ∷ (ltb (draughtAt p S) (freshAt p S), refused 13 0) ∷ []
+
+-- ---- an answer in 01's own terms: number 0 refuses nothing; beside a refusal the marks are all zero
+pub record Sheet : Type 0 where
+  pub verdict : Paper
   pub marks : Marks
 
-abbrev pub given : Marks → Paper
-given m = record { number = 0; marks = m }
+abbrev pub noMarks : Marks
+noMarks = record { s = 0; t = 0; w = 0; wna = 0; f = pos 0; tf = pos 0 }
 
-abbrev pub refused : ℕ → Paper
-refused n = record { number = n; marks = record { s = 0; t = 0; w = 0; wna = 0; f = pos 0; tf = pos 0 } }
+-- one definition gives 01's numbers for each case
+abbrev pub sheet : Answer → Sheet
+sheet (Given m) = record { verdict = accepted; marks = m }
+sheet (Refused r) = record { verdict = refused (numberOf r) (placeOf r); marks = noMarks }
 
-abbrev pub paper : Outcome → Paper
-paper (Given m) = given m
-paper NoDraught = refused 12
-paper FreshAllowance = refused 13
+-- marks beside the verdict that some lines give
+abbrev pub sheetOf : Paper → Marks → Sheet
+sheetOf v m = record { verdict = v; marks = pick (eqb (v .number) 0) m noMarks }
 
--- 12: summer mark at or above D; 13: fresh allowance above summer draught; else the six marks
-unfoldable pub marksOf : ℕ → ℕ → ℕ → ℕ → ℕ → ℕ → Paper
-marksOf floor D S L displacement immersion =
-    pick (leb D S) (refused 12)
-    (pick (ltb (D - S) (allowance displacement immersion (D - S))) (refused 13)
-    (given (sixMarks floor S (D - S) L (allowance displacement immersion (D - S)))))
+-- 12, 13, or the six marks
+unfoldable pub sheetAt : Particulars → ℕ → Sheet
+sheetAt p S = sheetOf (first (markLines p S)) (sixMarks p S)

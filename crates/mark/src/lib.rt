@@ -2,7 +2,8 @@
 ghost use mathlib.Core.Path.{_≡_};
 ghost use Prim.Native.Nat.{_+_, _^_, _≤_, _<_};
 ghost use Rattle.mark.specs.Summer.{summerMark};
-ghost use Rattle.mark.specs.Others.{tropical, winter, atlantic, allowance, sixMarks, paper, marksOf};
+ghost use Rattle.mark.specs.Others.{tropical, winter, atlantic, allowance, draughtAt, freshAt, sixMarks, sheet, sheetAt};
+use ship::refusal::Refusal;
 use units::Freeboard;
 use units::Span;
 
@@ -16,11 +17,20 @@ pub struct Marks {
     pub tf: i64,
 }
 
-// The marks, or a summer mark at or above the depth (12), or a fresh allowance above the summer draught (13).
-pub enum Outcome {
+// The marks, or what is refused.
+pub enum Answer {
     Given(Marks),
-    NoDraught,
-    FreshAllowance,
+    Refused(Refusal),
+}
+
+// What the five other marks need of a ship besides its summer mark: the least freeboard of its type in mm, D, L, and the two certified fields, both 0
+// if they are not: displacement in t, immersion in hundredths of a t per cm.
+pub struct Particulars {
+    pub floor: u64,
+    pub depth: Span,
+    pub length: Span,
+    pub displacement: u64,
+    pub immersion: u64,
 }
 
 // The summer mark: what is added less what is taken, or the bow's freeboard if greater, and at least the floor.
@@ -29,9 +39,9 @@ pub fn summer(floor: u64, added: Freeboard, taken: Freeboard, bow: Freeboard) ->
     ensures { λ r. ⌜ r ≡ summerMark floor (added .0) (taken .0) (bow .0) ⌝ }
     ensures { λ r. ⌜ r ≤ 2 ^ 50 ⌝ }
 {
-    let corrected = whole::less(added.0, taken.0);
-    let freeboard = whole::greater(corrected, bow.0);
-    whole::greater(floor, whole::div_up(freeboard, 1000))
+    let corrected = units::difference(added, taken);
+    let freeboard = units::greater(corrected, bow);
+    whole::greater(floor, units::mm_up(freeboard))
 }
 
 // T, from the summer mark and the summer draught d.
@@ -60,7 +70,7 @@ fn atlantic_of(w: u64, l: Span) -> u64
     if mm <= 100000 { w + 50 } else { w }
 }
 
-// The fresh water allowance, from displacement in t and immersion in hundredths of a t per cm, both 0 if not certified.
+// The fresh water allowance, from the certified fields or from the summer draught d.
 fn allowance_of(displacement: u64, immersion: u64, d: u64) -> u64
     requires { ⌜ (displacement < 1048576) × (d ≤ 60000) ⌝ }
     ensures { λ r. ⌜ r ≡ allowance displacement immersion d ⌝ }
@@ -72,14 +82,14 @@ fn allowance_of(displacement: u64, immersion: u64, d: u64) -> u64
     25 * displacement / immersion
 }
 
-// All six, from the summer mark, the summer draught and the fresh allowance.
-fn six_marks(floor: u64, s: u64, d: u64, l: Span, fresh: u64) -> Marks
-    requires { ⌜ (floor ≤ 60000) × (s ≤ 60000) × (d ≤ 60000) × (fresh ≤ 26214400) ⌝ }
-    ensures { λ r. ⌜ r ≡ sixMarks floor s d (l .0) fresh ⌝ }
+// All six, from the summer mark s, the summer draught d and the fresh allowance.
+fn six_marks(p: Particulars, s: u64, d: u64, fresh: u64) -> Marks
+    requires { ⌜ (p .floor ≤ 60000) × (p .depth .0 ≤ 60000) × (s < p .depth .0) × (d ≡ draughtAt p s) × (fresh ≡ freshAt p s) × (fresh ≤ 26214400) ⌝ }
+    ensures { λ r. ⌜ r ≡ sixMarks p s ⌝ }
 {
-    let t = tropical_of(floor, s, d);
+    let t = tropical_of(p.floor, s, d);
     let w = winter_of(s, d);
-    let wna = atlantic_of(w, l);
+    let wna = atlantic_of(w, p.length);
     let f = whole::minus(s, fresh);
     let tf = whole::minus(t, fresh);
     Marks {
@@ -93,25 +103,19 @@ fn six_marks(floor: u64, s: u64, d: u64, l: Span, fresh: u64) -> Marks
 }
 
 // All six from the summer mark s, or refusal 12 or 13.
-pub fn follow(
-    floor: u64,
-    depth: Span,
-    s: u64,
-    l: Span,
-    displacement: u64,
-    immersion: u64,
-) -> Outcome
-    requires { ⌜ (floor ≤ 60000) × (depth .0 ≤ 60000) × (displacement < 1048576) ⌝ }
-    ensures { λ r. ⌜ paper r ≡ marksOf floor (depth .0) s (l .0) displacement immersion ⌝ }
+pub fn follow(p: Particulars, s: u64) -> Answer
+    requires { ⌜ (p .floor ≤ 60000) × (p .depth .0 ≤ 60000) × (p .displacement < 1048576) ⌝ }
+    ensures { λ r. ⌜ sheet r ≡ sheetAt p s ⌝ }
 {
+    let depth = p.depth;
     let mm = depth.0;
     if mm <= s {
-        return Outcome::NoDraught;
+        return Answer::Refused(Refusal::NoDraught);
     }
-    let d = whole::less(mm, s);
-    let fresh = allowance_of(displacement, immersion, d);
+    let d = units::draught(depth, s);
+    let fresh = allowance_of(p.displacement, p.immersion, d);
     if d < fresh {
-        return Outcome::FreshAllowance;
+        return Answer::Refused(Refusal::FreshAllowance);
     }
-    Outcome::Given(six_marks(floor, s, d, l, fresh))
+    Answer::Given(six_marks(p, s, d, fresh))
 }

@@ -1,3 +1,4 @@
+use mathlib.Core.Path.{refl}
 use borrow.Author.Needs.{needs}
 use Rattle.houses.specs.Forecastle.{isForecastle}
 use Rattle.houses.proofs.is_forecastle.Statement.{statement}
@@ -8,5 +9,8 @@ unfolding isForecastle
 is-forecastle-spec =
     tie.close
     (tie.spec
-    (λ c. search needs)
-    (λ c. search needs))
+    (λ c κs. search needs)
+    (λ c κs. search needs)
+    (λ c.
+    let b = c .before in
+    rw (b .is-at-or-abaft .ensures, b .before .forward-of-ap .ensures) refl))

@@ -12,8 +12,12 @@ limited-length-spec =
     tie.close
     (tie.spec
     (λ c κs. search needs)
-    (λ c. search needs)
+    (λ c κs. search needs)
     (λ c. search needs)
     (λ c κs. search needs)
-    (λ c. (rw (c .lesser .ensures, c .before .before .before .part .ensures .0, c .before .if1 .taken) refl, omega (arith, c .lesser .ensures)))
-    (λ c. (rw (c .before .before .part .ensures .0, c .if1 .left) refl, omega arith)))
+    (λ c.
+    let u = c .before .before in
+    (rw (c .lesser .ensures, u .effective-of .ensures, u .before .part .ensures .0, c .before .if1 .taken) refl, omega (arith, c .lesser .ensures)))
+    (λ c.
+    let u = c .before in
+    (rw (u .effective-of .ensures, u .before .part .ensures .0, c .if1 .left) refl, omega (arith, u .effective-of .ensures))))

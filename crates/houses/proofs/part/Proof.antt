@@ -13,13 +13,18 @@ part-spec =
     tie.close
     (tie.spec
     (λ c κs. search needs)
-    (λ c. search needs)
+    (λ c κs. search needs)
+    (λ c κs. search needs)
     (λ c κs. search needs)
     (λ c κs. search needs)
     (λ c.
     let t = c .before in
-    let a = t .before .before .before .args in
-    let e : t .less .result ≡ partOf (a .l .0) (a .h) =
-    rw (t .less .ensures, t .before .lesser .ensures, t .before .before .greater .ensures, c .if1 .taken) refl in
+    let o = t .before in
+    let f = o .before in
+    let q = f .before in
+    let p = q .before in
+    let a = p .before .args in
+    let e : c .between .result .0 ≡ partOf (a .l .0) (a .h) =
+    rw (c .between .ensures, o .aftermost .ensures, f .foremost .ensures, q .forward-of-ap2 .ensures, p .forward-of-ap .ensures, t .if1 .taken) refl in
     (e, rw e (part-most (a .l .0) (a .h))))
     (λ c. (rw (c .if1 .left) refl, omega arith)))

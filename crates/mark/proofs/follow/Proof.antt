@@ -1,30 +1,44 @@
-use Prim.Native.Nat.{_-_}
-use mathlib.Core.Path.{ap}
+-- Each return is at the first line that fails, or at none.
+use Prim.Native.Nat.{_≤_, _<_}
+use mathlib.Core.Path.{_≡_, refl, _∙_}
 use native.Mathlib.Omega.{arith}
 use borrow.Author.Needs.{needs}
 use borrow.Author.Tests.{le-leb, lt-leb, le-ltb, lt-ltb}
 use Rattle.whole.specs.Pick.{pick}
-use Rattle.mark.specs.Others.{allowance, given, marksOf}
+use Rattle.ship.specs.Refusals.{first}
+use Rattle.mark.specs.Others.{draughtAt, freshAt, sheetAt}
 use Rattle.mark.proofs.follow.Statement.{statement}
 use Rattle.mark.proofs.follow.Tie as tie
 
+-- what the calls gave is the definition's
+fresh : (c : tie.After-allowance-of)
+    → let a = c .before .before .before .before .args in
+    c .allowance-of .result ≡ freshAt (a .p) (a .s)
+fresh c = rw (c .before .draught .ensures) at (c .allowance-of .ensures .0)
+
 pub follow-spec : {M : Type 1} → statement M
-unfolding pick marksOf
+unfolding first pick sheetAt
 follow-spec =
     tie.close
     (tie.spec
-    (λ c. simp (le-leb (c .before .args .depth .0) (c .before .args .s) (omega arith)))
+    (λ c. let a = c .before .before .args in simp (le-leb (a .p .depth .0) (a .s) (omega arith)))
     (λ c κs. search needs)
     (λ c κs. search needs)
-    (λ c. let a = c .before in
-    let g = a .before .before .before .args in
-    let d = g .depth .0 - g .s in
-    let e = a .before .less .ensures in
-    simp (lt-leb (g .depth .0) (g .s) (omega arith), lt-ltb d (allowance (g .displacement) (g .immersion) d) (omega (arith, e, rw e at (a .allowance-of .ensures .0)))))
-    (λ c κs. search needs)
-    (λ c. let a = c .before .before in
-    let g = a .before .before .before .args in
-    let d = g .depth .0 - g .s in
-    let e = a .before .less .ensures in
-    simp (lt-leb (g .depth .0) (g .s) (omega arith), le-ltb d (allowance (g .displacement) (g .immersion) d) (omega (arith, e, rw e at (a .allowance-of .ensures .0))))
-    (ap given (rw (a .allowance-of .ensures .0, e) at (c .six-marks .ensures)))))
+    (λ c.
+    let f = c .before in
+    let a = f .before .before .before .before .args in
+    simp (
+      lt-leb (a .p .depth .0) (a .s) (omega arith),
+      lt-ltb (draughtAt (a .p) (a .s)) (freshAt (a .p) (a .s)) (rw (← fresh f, ← f .before .draught .ensures) (omega arith)),
+    ))
+    (λ c κs.
+    let f = c .before in
+    (omega arith, omega arith, omega arith, f .before .draught .ensures, fresh f, f .allowance-of .ensures .1))
+    (λ c.
+    let f = c .before .before in
+    let a = f .before .before .before .before .args in
+    simp (
+      lt-leb (a .p .depth .0) (a .s) (omega arith),
+      le-ltb (draughtAt (a .p) (a .s)) (freshAt (a .p) (a .s)) (rw (← fresh f, ← f .before .draught .ensures) (omega arith)),
+      c .six-marks .ensures,
+    )))

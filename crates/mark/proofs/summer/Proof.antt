@@ -15,7 +15,8 @@ summer-spec =
     (λ c κs. search needs)
     (λ c κs. search needs)
     (λ c κs. search needs)
-    (λ c. let d = c .before in
+    (λ c.
+    let d = c .before in
     let g = d .before in
-    let h : d .div-up .result ≤ 2 ^ 50 = rw (d .div-up .ensures) (ceil-most (g .greater .result) 1000 (2 ^ 50) (omega arith) (omega arith)) in
-    (rw (c .greater2 .ensures, d .div-up .ensures, g .greater .ensures, g .before .less .ensures), omega arith)))
+    let h : d .mm-up .result ≤ 2 ^ 50 = rw (d .mm-up .ensures) (ceil-most (g .greater .result .0) 1000 (2 ^ 50) (omega arith) (omega arith)) in
+    (rw (c .greater2 .ensures, d .mm-up .ensures, g .greater .ensures, g .before .difference .ensures), omega arith)))

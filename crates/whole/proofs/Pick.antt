@@ -33,3 +33,9 @@ same-test a b c d f g =
       | yes t ↦ (let n : ¬ (c ≤ d) = λ h. omega (arith, g h) in lt-leb a b t ∙ sym (lt-leb c d (omega arith)))
       | no t ↦ (let h : a ≤ b = omega arith in le-leb a b h ∙ sym (le-leb c d (f h)))
     ]
+
+-- a function of a choice is the choice of its values
+pub pick-of : {A B : Type 0} (f : A → B) (b : Bool) (x y : A) → pick b (f x) (f y) ≡ f (pick b x y)
+unfolding pick
+pick-of f true x y = refl
+pick-of f false x y = refl

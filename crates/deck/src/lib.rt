@@ -1,0 +1,92 @@
+// What the houses on a deck give to the steps: sums over them (33 to 35, and 38's cover), and the forecastle.
+ghost use mathlib.Core.Path.{_≡_};
+ghost use mathlib.Core.List.{[]};
+ghost use Prim.Native.Nat.{_≤_};
+ghost use lib.ListN.{take};
+ghost use Rattle.ship.specs.Good.{GoodHouse, GoodHouses};
+ghost use Rattle.deck.specs.Deck.{deckOf, deckWith, effectiveOn, FairDeck};
+use ship::House;
+use units::Effective;
+use units::Span;
+
+// Of the forecastle: its effective length, l and its height, all 0 where there is none.
+pub struct Forecastle {
+    pub effective: Effective,
+    pub part: Span,
+    pub height: Span,
+}
+
+// S, the sum of the effective lengths, the cover's reach in tenths of a millimetre, and the forecastle.
+pub struct Deck {
+    pub s: Span,
+    pub effective: Effective,
+    pub reach: u64,
+    pub forecastle: Forecastle,
+}
+
+// A deck with one more house before the others.
+pub fn with_house(l: Span, h: House, d: Deck) -> Deck
+    requires { ⌜ (l .0 ≤ 365000) × GoodHouse (l .0) h × FairDeck (l .0) d ⌝ }
+    ensures { λ r. ⌜ r ≡ deckWith (l .0) h d ⌝ }
+{
+    let part = houses::part(l, h);
+    let effective = houses::effective_of(l, h);
+    let s = Span(part.0 + d.s.0);
+    let sum = Effective(effective.0 + d.effective.0);
+    let reach = houses::reach_of(l, h) + d.reach;
+    let mut forecastle = d.forecastle;
+    if houses::is_forecastle(l, h) {
+        let height = h.height;
+        forecastle = Forecastle {
+            effective,
+            part,
+            height,
+        };
+    }
+    Deck {
+        s,
+        effective: sum,
+        reach,
+        forecastle,
+    }
+}
+
+// The deck with no house.
+fn bare_deck(l: Span) -> Deck
+    ensures { λ r. ⌜ r ≡ deckOf (l .0) [] ⌝ }
+{
+    let forecastle = Forecastle {
+        effective: Effective(0),
+        part: Span(0),
+        height: Span(0),
+    };
+    Deck {
+        s: Span(0),
+        effective: Effective(0),
+        reach: 0,
+        forecastle,
+    }
+}
+
+// The deck of the first `n` houses, set from the last on.
+pub fn deck_of(l: Span, hs: [House; 8], n: usize) -> Deck
+    requires { ⌜ (l .0 ≤ 365000) × (n ≤ 8) × GoodHouses (l .0) (take n hs) ⌝ }
+    ensures { λ r. ⌜ r ≡ deckOf (l .0) (take n hs) ⌝ }
+    ensures { λ r. ⌜ FairDeck (l .0) r ⌝ }
+{
+    let mut d = bare_deck(l);
+    let mut k = n;
+    while 0 < k {
+        k -= 1;
+        let h = hs[k];
+        d = with_house(l, h, d);
+    }
+    d
+}
+
+// E, of what a deck holds.
+pub fn effective_length(d: Deck) -> Effective
+    ensures { λ r. ⌜ r .0 ≡ effectiveOn d ⌝ }
+{
+    d.effective
+}

@@ -5,6 +5,7 @@ use mathlib.Core.List.{List, [], _∷_, _++_}
 use lib.ListN.{length, take, drop, getD, replicate}
 use lib.Dec.{eqb}
 use Rattle.bits.specs.Fields.{number, unpack, pack, bytes}
+use Rattle.units.specs.Datum.{sheerAt}
 use Rattle.ship.specs.declared.House.{House}
 use Rattle.ship.specs.declared.Ship.{Ship}
 use Rattle.ship.specs.Vessel as Vessel
@@ -74,8 +75,8 @@ pub record Low (hs : List House) : Type 0 where
 abbrev pub headFields : Ship → List ℕ
 headFields x =
     1 ∷ x .kind ∷ x .n ∷ 0 ∷ x .length .0 ∷ x .depth .0 ∷ x .moulded .0 ∷ x .block ∷ x .waterplane
-    ∷ turn14 (getD (x .sheer) 0 0) ∷ turn14 (getD (x .sheer) 1 0) ∷ turn14 (getD (x .sheer) 2 0)
-    ∷ turn14 (getD (x .sheer) 3 0) ∷ turn14 (getD (x .sheer) 4 0) ∷ turn14 (getD (x .sheer) 5 0)
+    ∷ turn14 (sheerAt (x .sheer) 0) ∷ turn14 (sheerAt (x .sheer) 1) ∷ turn14 (sheerAt (x .sheer) 2)
+    ∷ turn14 (sheerAt (x .sheer) 3) ∷ turn14 (sheerAt (x .sheer) 4) ∷ turn14 (sheerAt (x .sheer) 5)
     ∷ x .displacement ∷ x .immersion ∷ []
 
 unfoldable pub headBytes : Ship → List ℕ
@@ -106,7 +107,9 @@ shipOf f hs = record {
   moulded = record { 0 = getD f 6 0 };
   block = getD f 7 0;
   waterplane = getD f 8 0;
-  sheer = turn14 (getD f 9 0) ∷ turn14 (getD f 10 0) ∷ turn14 (getD f 11 0) ∷ turn14 (getD f 12 0) ∷ turn14 (getD f 13 0) ∷ turn14 (getD f 14 0) ∷ [];
+  sheer =
+      record { 0 = turn14 (getD f 9 0) } ∷ record { 0 = turn14 (getD f 10 0) } ∷ record { 0 = turn14 (getD f 11 0) }
+      ∷ record { 0 = turn14 (getD f 12 0) } ∷ record { 0 = turn14 (getD f 13 0) } ∷ record { 0 = turn14 (getD f 14 0) } ∷ [];
   displacement = getD f 15 0;
   immersion = getD f 16 0;
   houses = hs;

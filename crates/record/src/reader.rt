@@ -12,6 +12,7 @@ use ship::Ship;
 use ship::checks;
 use ship::refusal::Refusal;
 use ship::refusal::Verdict;
+use units::Ordinate;
 use units::Span;
 use units::Station;
 
@@ -159,12 +160,12 @@ fn ship_in(s: &[u8]) -> Ship
     let n = f[2] as usize;
     let houses = places_in(s, n);
     let sheer = [
-        layout::turned14(f[9]),
-        layout::turned14(f[10]),
-        layout::turned14(f[11]),
-        layout::turned14(f[12]),
-        layout::turned14(f[13]),
-        layout::turned14(f[14]),
+        Ordinate(layout::turned14(f[9])),
+        Ordinate(layout::turned14(f[10])),
+        Ordinate(layout::turned14(f[11])),
+        Ordinate(layout::turned14(f[12])),
+        Ordinate(layout::turned14(f[13])),
+        Ordinate(layout::turned14(f[14])),
     ];
     Ship {
         kind: f[1],

@@ -116,8 +116,8 @@ fn put_sheer(out: &mut [u8], x: Ship)
     ensures { λ _. ⌜ now (out .exit) ≡ bytes 15 (pack (drop 9 headWidths) (drop 9 (headFields x))) ⌝ }
 {
     let s = x.sheer;
-    let four = sheer_word(s[0], s[1], s[2], s[3]);
-    let two = displacement_word(s[4], s[5], x.displacement);
+    let four = sheer_word(s[0].0, s[1].0, s[2].0, s[3].0);
+    let two = displacement_word(s[4].0, s[5].0, x.displacement);
     bits::put_word(&mut out[0..7], four);
     bits::put_word(&mut out[7..13], two);
     bits::put_word(&mut out[13..15], x.immersion);

@@ -11,6 +11,8 @@ use native.Mathlib.Omega.{arith}
 use Rattle.whole.specs.Pick.{pick}
 use Rattle.bits.specs.Fields.{number, pack, unpack, bytes, Bytes}
 use Rattle.bits.proofs.Radix.{read-written, written-read, fit-each, bytes-take, bytes-drop}
+use Rattle.units.specs.declared.Ordinate.{Ordinate}
+use Rattle.units.specs.Datum.{sheerAt}
 use Rattle.ship.specs.declared.House.{House}
 use Rattle.ship.specs.declared.Ship.{Ship}
 use Rattle.ship.specs.Vessel as Vessel
@@ -37,10 +39,14 @@ pub record Shaped (x : Ship) : Type 0 where
   pub eight : length (x .houses) ≡ 8
   pub six : length (x .sheer) ≡ 6
 
-six-of : (s : List ℕ) → length s ≡ 6 → getD s 0 0 ∷ getD s 1 0 ∷ getD s 2 0 ∷ getD s 3 0 ∷ getD s 4 0 ∷ getD s 5 0 ∷ [] ≡ s
-six-of s e = ext-getD 0 _ s (sym e) (λ i h. below i (omega arith))
+-- six ordinates by their places
+abbrev sheerFields : (ℕ → ℕ) → List Ordinate
+sheerFields f = record { 0 = f 0 } ∷ record { 0 = f 1 } ∷ record { 0 = f 2 } ∷ record { 0 = f 3 } ∷ record { 0 = f 4 } ∷ record { 0 = f 5 } ∷ []
+
+six-of : (o : List Ordinate) → length o ≡ 6 → sheerFields (sheerAt o) ≡ o
+six-of o e = ext-getD (record { 0 = 0 }) _ o (sym e) (λ i h. below i (omega arith))
   where
-    below : (i : ℕ) → i < 6 → getD (getD s 0 0 ∷ getD s 1 0 ∷ getD s 2 0 ∷ getD s 3 0 ∷ getD s 4 0 ∷ getD s 5 0 ∷ []) i 0 ≡ getD s i 0
+    below : (i : ℕ) → i < 6 → getD (sheerFields (sheerAt o)) i (record { 0 = 0 }) ≡ getD o i (record { 0 = 0 })
     below zero h = refl
     below (suc zero) h = refl
     below (suc (suc zero)) h = refl
@@ -52,11 +58,11 @@ six-of s e = ext-getD 0 _ s (sym e) (λ i h. below i (omega arith))
 -- the ship of its own fields
 ship-fields : (x : Ship) → length (x .sheer) ≡ 6 → Good x → shipOf (headFields x) (x .houses) ≡ x
 ship-fields x six g =
-    let s = x .sheer in
-    let e : turn14 (turn14 (getD s 0 0)) ∷ turn14 (turn14 (getD s 1 0)) ∷ turn14 (turn14 (getD s 2 0))
-    ∷ turn14 (turn14 (getD s 3 0)) ∷ turn14 (turn14 (getD s 4 0)) ∷ turn14 (turn14 (getD s 5 0)) ∷ [] ≡ s =
-    (λ i. turn-turn (getD s 0 0) (g .sheer-0) i ∷ turn-turn (getD s 1 0) (g .sheer-1) i ∷ turn-turn (getD s 2 0) (g .sheer-2) i
-    ∷ turn-turn (getD s 3 0) (g .sheer-3) i ∷ turn-turn (getD s 4 0) (g .sheer-4) i ∷ turn-turn (getD s 5 0) (g .sheer-5) i ∷ []) ∙ six-of s six in
+    let o = x .sheer in
+    let l = g .sheer in
+    let e : sheerFields (λ k. turn14 (turn14 (sheerAt o k))) ≡ o =
+    (λ i. record { 0 = turn-turn (sheerAt o 0) (l .ap) i } ∷ record { 0 = turn-turn (sheerAt o 1) (l .after-sixth) i } ∷ record { 0 = turn-turn (sheerAt o 2) (l .after-third) i }
+    ∷ record { 0 = turn-turn (sheerAt o 3) (l .forward-third) i } ∷ record { 0 = turn-turn (sheerAt o 4) (l .forward-sixth) i } ∷ record { 0 = turn-turn (sheerAt o 5) (l .fp) i } ∷ []) ∙ six-of o six in
     λ i. record {
       kind = x .kind;
       n = x .n;

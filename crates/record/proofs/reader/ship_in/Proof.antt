@@ -1,7 +1,7 @@
 -- The fields go to their places; each ordinate of sheer is turned.
 use Prim.Native.Nat.{ℕ}
-use mathlib.Core.Path.{ap}
-use mathlib.Core.List.{List}
+use mathlib.Core.Path.{ap, _∙_}
+use mathlib.Core.List.{List, [], _∷_}
 use lib.ListN.{getD}
 use denote.Ref.{now}
 use borrow.Author.Needs.{needs}
@@ -38,14 +38,23 @@ ship-in-spec =
     (λ c. search needs)
     (λ c. search needs)
     (λ c.
-    let f = c .before .before .before in
-    let r = f .before .before .before in
-    rw (
-      c .turned146 .ensures .0,
-      c .before .turned145 .ensures .0,
-      c .before .before .turned144 .ensures .0,
-      f .turned143 .ensures .0,
-      f .before .turned142 .ensures .0,
-      f .before .before .turned14 .ensures .0,
-      r .places-in .ensures,
-    ) (ap (λ (f : List ℕ). shipOf f (placesIn (getD f 2 0) (now (r .before .before .before .args .s)))) (r .before .head-in .ensures))))
+    let g = c .before .before .before in
+    let r = g .before .before .before in
+    let f = r .before .head-in .result in
+    let s = now (r .before .before .before .args .s) in
+    (λ i. record {
+      kind = getD f 1 0;
+      n = getD f 2 0;
+      length = record { 0 = getD f 4 0 };
+      depth = record { 0 = getD f 5 0 };
+      moulded = record { 0 = getD f 6 0 };
+      block = getD f 7 0;
+      waterplane = getD f 8 0;
+      sheer =
+          record { 0 = g .before .before .turned14 .ensures .0 i } ∷ record { 0 = g .before .turned142 .ensures .0 i } ∷ record { 0 = g .turned143 .ensures .0 i }
+          ∷ record { 0 = c .before .before .turned144 .ensures .0 i } ∷ record { 0 = c .before .turned145 .ensures .0 i } ∷ record { 0 = c .turned146 .ensures .0 i } ∷ [];
+      displacement = getD f 15 0;
+      immersion = getD f 16 0;
+      houses = r .places-in .ensures i;
+    })
+    ∙ ap (λ (f : List ℕ). shipOf f (placesIn (getD f 2 0) s)) (r .before .head-in .ensures)))

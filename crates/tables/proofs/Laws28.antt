@@ -61,7 +61,7 @@ pub tabular-small : {t : List ℕ} → Rows t → (l : ℕ) → l ≤ 365000 →
 tabular-small r l h = (let q = pair r l h in omega (arith, tabular-at-most-next r l h))
 
 -- the value between two rows, as a share of each
-mix : (lo hi p : ℕ) → lo ≤ hi → p ≤ 1000 → lo * 1000 + p * (hi - lo) ≡ lo * (1000 - p) + hi * p
+mix : (lo hi p : ℕ) → lo ≤ hi → p ≤ 1000 → 1000 * lo + p * (hi - lo) ≡ lo * (1000 - p) + hi * p
 mix lo hi p h g =
     let e : lo + (hi - lo) ≡ hi = omega arith in
     let f : p + (1000 - p) ≡ 1000 = omega arith in

@@ -9,10 +9,12 @@ use lib.ListN.{length, getD}
 use Rattle.whole.specs.Row.{Rising}
 use Rattle.tables.proofs.Every.{both, left, right}
 use Rattle.tables.specs.Percentages.{Percentages}
-use Rattle.tables.specs.Table37.{ordinaryRow, timberRow, olderRow, olderBridgeRow}
+use Rattle.tables.specs.declared.table37.Row.{Row}
+use Rattle.tables.specs.declared.table37.Row.the-variants.{Ordinary, Timber, Older, OlderBridge}
+use Rattle.tables.specs.Table37.{ordinaryRow, timberRow, olderRow, olderBridgeRow, entries}
 
 -- the rule as a test, which the check computes
-unfoldable pub rises : List ℕ → Bool
+unfoldable rises : List ℕ → Bool
 rises [] = false
 rises (p ∷ []) = leb p 1000
 rises (p ∷ q ∷ ps) = both (both (leb p q) (leb q (p + 180))) (rises (q ∷ ps))
@@ -33,21 +35,12 @@ most (p ∷ []) t (suc k) = zero-le
 most (p ∷ q ∷ ps) t zero = le-trans (leb→le _ _ (left _ _ (left _ _ t))) (most (q ∷ ps) (right _ _ t) zero)
 most (p ∷ q ∷ ps) t (suc k) = most (q ∷ ps) (right _ _ t) k
 
-pub percentages : (row : List ℕ) → T (rises row) → length row ≡ 11 → Percentages row
+percentages : (row : List ℕ) → T (rises row) → length row ≡ 11 → Percentages row
 percentages row t e = record { eleven = e; rising = rising row t; most = most row t }
 
-pub ordinary-row : Percentages ordinaryRow
-unfolding rises both ordinaryRow
-ordinary-row = percentages ordinaryRow tt refl
-
-pub timber-row : Percentages timberRow
-unfolding rises both timberRow
-timber-row = percentages timberRow tt refl
-
-pub older-row : Percentages olderRow
-unfolding rises both olderRow
-older-row = percentages olderRow tt refl
-
-pub older-bridge-row : Percentages olderBridgeRow
-unfolding rises both olderBridgeRow
-older-bridge-row = percentages olderBridgeRow tt refl
+pub each-row : (row : Row) → Percentages (entries row)
+unfolding rises both ordinaryRow timberRow olderRow olderBridgeRow
+each-row Ordinary = percentages ordinaryRow tt refl
+each-row Timber = percentages timberRow tt refl
+each-row Older = percentages olderRow tt refl
+each-row OlderBridge = percentages olderBridgeRow tt refl

@@ -1,6 +1,8 @@
 -- The percentages of the houses' deduction (37, 45), in tenths of a per cent at E/L = 0, 0.1 .. 1.0.
 use mathlib.Core.List.{List, [], _∷_}
 use Prim.Native.Nat.{ℕ}
+use Rattle.tables.specs.declared.table37.Row.{Row}
+use Rattle.tables.specs.declared.table37.Row.the-variants.{Ordinary, Timber, Older, OlderBridge}
 
 -- table 37.1
 unfoldable pub ordinaryRow : List ℕ
@@ -17,3 +19,10 @@ olderRow = 0 ∷ 50 ∷ 100 ∷ 150 ∷ 235 ∷ 320 ∷ 460 ∷ 630 ∷ 753 ∷ 
 -- its line II: a forecastle and a detached bridge
 unfoldable pub olderBridgeRow : List ℕ
 olderBridgeRow = 0 ∷ 63 ∷ 127 ∷ 190 ∷ 275 ∷ 360 ∷ 460 ∷ 630 ∷ 753 ∷ 877 ∷ 1000 ∷ []
+
+-- the entries of a row by its name
+abbrev pub entries : Row → List ℕ
+entries Ordinary = ordinaryRow
+entries Timber = timberRow
+entries Older = olderRow
+entries OlderBridge = olderBridgeRow

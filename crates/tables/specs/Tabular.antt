@@ -11,4 +11,4 @@ abbrev pub nextOf : ℕ → ℕ
 nextOf l = min (rowOf l + 1) 341
 
 unfoldable pub tabular : List ℕ → ℕ → ℕ
-tabular t l = getD t (rowOf l) 0 * 1000 + (l % 1000) * (getD t (nextOf l) 0 - getD t (rowOf l) 0)
+tabular t l = 1000 * getD t (rowOf l) 0 + (l % 1000) * (getD t (nextOf l) 0 - getD t (rowOf l) 0)

@@ -7,7 +7,7 @@ pub struct Rows {
     pub hi: u64,
 }
 
-// A row fits 16 bits: a table as small as that is laid out soon.
+// No row is above 65535 mm, so a table is one of 16 bits: the smaller it is, the less there is to copy at each use.
 pub fn wide(row: u16) -> u64
     ensures { λ r. ⌜ (r ≡ row) × (r < 65536) ⌝ }
 {

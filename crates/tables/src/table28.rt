@@ -8,11 +8,12 @@ use crate::table28b;
 use units::Freeboard;
 use units::Span;
 
-// The row of the whole metre at or below `mm`.
-fn row_of(mm: u64) -> usize
-    requires { ⌜ (24000 ≤ mm) × (mm ≤ 365000) ⌝ }
-    ensures { λ r. ⌜ r ≡ rowOf mm ⌝ }
+// The row of the whole metre at or below `l`.
+fn row_of(l: Span) -> usize
+    requires { ⌜ (24000 ≤ l .0) × (l .0 ≤ 365000) ⌝ }
+    ensures { λ r. ⌜ r ≡ rowOf (l .0) ⌝ }
 {
+    let mm = l.0;
     (mm / 1000 - 24) as usize
 }
 
@@ -24,13 +25,15 @@ fn next(k: usize) -> usize
     if k < 341 { k + 1 } else { 341 }
 }
 
-// The freeboard at `mm` between the row `lo` of its whole metre and the next, `hi`. Rows are in mm and it is in um, so nothing is rounded.
-fn between(lo: u64, hi: u64, mm: u64) -> Freeboard
+// The freeboard at `l` between the row `lo` of its whole metre and the next, `hi`. A thousandth of a row, which is in mm, is whole in um: nothing is rounded.
+fn between(lo: u64, hi: u64, l: Span) -> Freeboard
     requires { ⌜ (lo ≤ hi) × (hi ≤ 6000) ⌝ }
-    ensures { λ r. ⌜ r .0 ≡ lo * 1000 + (mm % 1000) * (hi - lo) ⌝ }
+    ensures { λ r. ⌜ r .0 ≡ 1000 * lo + (l .0 % 1000) * (hi - lo) ⌝ }
     ensures { λ r. ⌜ r .0 ≤ 6000000 ⌝ }
 {
-    Freeboard(lo * 1000 + mm % 1000 * (hi - lo))
+    let mm = l.0;
+    let rise = Freeboard(mm % 1000 * (hi - lo));
+    units::sum(units::freeboard_of_mm(lo), rise)
 }
 
 // The tabular freeboard of a type A ship of length `l`.
@@ -39,10 +42,9 @@ pub fn tabular_a(l: Span) -> Freeboard
     ensures { λ r. ⌜ r .0 ≡ tabular table28A (l .0) ⌝ }
     ensures { λ r. ⌜ r .0 ≤ 6000000 ⌝ }
 {
-    let mm = l.0;
-    let k = row_of(mm);
+    let k = row_of(l);
     let rows = table28a::rows(k, next(k));
-    between(rows.lo, rows.hi, mm)
+    between(rows.lo, rows.hi, l)
 }
 
 // The tabular freeboard of a type B ship of length `l`.
@@ -51,8 +53,7 @@ pub fn tabular_b(l: Span) -> Freeboard
     ensures { λ r. ⌜ r .0 ≡ tabular table28B (l .0) ⌝ }
     ensures { λ r. ⌜ r .0 ≤ 6000000 ⌝ }
 {
-    let mm = l.0;
-    let k = row_of(mm);
+    let k = row_of(l);
     let rows = table28b::rows(k, next(k));
-    between(rows.lo, rows.hi, mm)
+    between(rows.lo, rows.hi, l)
 }

@@ -2,7 +2,7 @@
 ghost use mathlib.Core.Path.{_≡_};
 ghost use Prim.Native.Nat.{_≤_, _<_};
 ghost use lib.ListN.{getD};
-ghost use Rattle.tables.specs.Table37.{ordinaryRow, timberRow, olderRow, olderBridgeRow};
+ghost use Rattle.tables.specs.Table37.{entries};
 
 // Table 37.1.
 const ORDINARY: [u64; 11] = [0, 70, 140, 210, 310, 410, 520, 630, 753, 877, 1000];
@@ -16,34 +16,23 @@ const OLDER: [u64; 11] = [0, 50, 100, 150, 235, 320, 460, 630, 753, 877, 1000];
 // Its line II: a forecastle and a detached bridge.
 const OLDER_BRIDGE: [u64; 11] = [0, 63, 127, 190, 275, 360, 460, 630, 753, 877, 1000];
 
-pub fn ordinary(k: usize) -> u64
-    requires { ⌜ k < 11 ⌝ }
-    ensures { λ r. ⌜ r ≡ getD ordinaryRow k 0 ⌝ }
-    ensures { λ r. ⌜ r ≤ 1000 ⌝ }
-{
-    ORDINARY[k]
+pub enum Row {
+    Ordinary,
+    Timber,
+    Older,
+    OlderBridge,
 }
 
-pub fn timber(k: usize) -> u64
+// The percentage at the tenth `k` of E/L.
+pub fn percentage(row: Row, k: usize) -> u64
     requires { ⌜ k < 11 ⌝ }
-    ensures { λ r. ⌜ r ≡ getD timberRow k 0 ⌝ }
+    ensures { λ r. ⌜ r ≡ getD (entries row) k 0 ⌝ }
     ensures { λ r. ⌜ r ≤ 1000 ⌝ }
 {
-    TIMBER[k]
-}
-
-pub fn older(k: usize) -> u64
-    requires { ⌜ k < 11 ⌝ }
-    ensures { λ r. ⌜ r ≡ getD olderRow k 0 ⌝ }
-    ensures { λ r. ⌜ r ≤ 1000 ⌝ }
-{
-    OLDER[k]
-}
-
-pub fn older_bridge(k: usize) -> u64
-    requires { ⌜ k < 11 ⌝ }
-    ensures { λ r. ⌜ r ≡ getD olderBridgeRow k 0 ⌝ }
-    ensures { λ r. ⌜ r ≤ 1000 ⌝ }
-{
-    OLDER_BRIDGE[k]
+    match row {
+        Row::Ordinary => ORDINARY[k],
+        Row::Timber => TIMBER[k],
+        Row::Older => OLDER[k],
+        Row::OlderBridge => OLDER_BRIDGE[k],
+    }
 }

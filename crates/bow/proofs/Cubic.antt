@@ -1,10 +1,12 @@
--- b1's cubic never stops at zero, and it rises with L: so b1 is at most its value at 365 m.
+-- b1's cubic as code computes it, in 5000000000ths of a um with L in mm, never stops at zero, and it rises with L: so b1 is at most its value at 365 m.
 use Prim.Native.Nat.{ℕ, _+_, _*_, _-_, _≤_}
 use mathlib.Core.Path.{_≡_, ap}
 use native.Mathlib.Omega.{arith}
 use native.Mathlib.Nat.{le-dest, mul-le-mul-right}
 use Rattle.whole.proofs.Divide.{two-products}
-use Rattle.bow.specs.Bow.{cubic}
+
+unfoldable pub cubic : ℕ → ℕ
+cubic L = L * (303750000000 + L * L - 937500 * L)
 
 pub cubic-sum : (L : ℕ) → cubic L + 937500 * (L * L) ≡ 303750000000 * L + L * L * L
 unfolding cubic

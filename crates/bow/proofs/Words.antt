@@ -1,11 +1,11 @@
--- b1 and the two sides of b2 of specs/Bow.antt, before they are rounded, are the regulation's own of specs/Exact.antt.
-use Prim.Native.Nat.{ℕ, _+_, _*_, _-_, _<_}
+-- The numbers that code computes for b1 and the two sides of b2 are the regulation's fractions.
+use Prim.Native.Nat.{ℕ, _+_, _*_, _-_, _<_, min}
 use native.Mathlib.Omega.{arith}
 use Rattle.whole.specs.Frac.{Frac, _≈f_, _+f_, _*f_, _-f_, whole, frac}
 use Rattle.whole.proofs.Divide.{sub-mul}
-use Rattle.whole.proofs.Frac.{bot-of, refl≈, sym≈, trans≈, *-same, sub-same, factor-out, scaled}
-use Rattle.bow.specs.Bow.{cubic, rises, falls}
-use Rattle.bow.specs.Exact.{hundreds, exactB1, exactRises, exactFalls, exactHigher, exactLower}
+use Rattle.whole.proofs.Frac.{bot-of, refl≈, sym≈, trans≈, *-same, sub-same, factor-out}
+use Rattle.bow.proofs.Cubic.{cubic}
+use Rattle.bow.specs.Bow.{hundreds, exactB1, exactRises, exactFalls}
 
 -- the cubic of a fraction, its factor taken out
 taken-out : (x : Frac) → whole 6075 *f x +f whole 200 *f x *f x *f x -f whole 1875 *f x *f x ≈f x *f (whole 6075 +f whole 200 *f x *f x -f whole 1875 *f x)
@@ -30,25 +30,10 @@ b1-words L =
     })
     (*-same (refl≈ (whole 1000)) (sym≈ (taken-out x)))
 
-pub rises-words : (M cb : ℕ) → 0 < M → frac (rises M cb) (170 * M) *f frac 1 1000000 ≈f exactRises cb
-unfolding rises exactRises
+pub rises-words : (M cb : ℕ) → 0 < M → frac (17 * M * (20800000 + 609 * min cb 10000)) (170 * M) ≈f exactRises cb *f whole 1000000
+unfolding exactRises
 rises-words M cb h = record { eq = rw (bot-of (170 * M) (omega arith)) (omega arith) }
 
-pub falls-words : (L M cwf : ℕ) → 0 < M → frac (falls L M cwf) (170 * M) *f frac 1 1000000 ≈f exactFalls L M cwf
-unfolding falls exactFalls
+pub falls-words : (L M cwf : ℕ) → 0 < M → frac (17 * M * (1603 * cwf) + 2580000 * L) (170 * M) ≈f exactFalls L M cwf *f whole 1000000
+unfolding exactFalls
 falls-words L M cwf h = record { eq = rw (bot-of (170 * M) (omega arith), bot-of (85 * M) (omega arith)) (omega arith) }
-
--- the product, above zero and below
-pub higher-words : (L M cb cwf : ℕ) → 0 < M
-    → frac (cubic L) 5000000000 *f frac (rises M cb - falls L M cwf) (170 * M) *f frac 1 1000000 ≈f exactHigher L M cb cwf
-unfolding exactHigher
-higher-words L M cb cwf h =
-    trans≈ {y = frac (cubic L) 5000000000 *f (frac (rises M cb - falls L M cwf) (170 * M) *f frac 1 1000000)} (omega arith)
-    (*-same (b1-words L) (scaled (rises M cb) (falls L M cwf) (170 * M) (frac 1 1000000) (omega arith) (rises-words M cb h) (falls-words L M cwf h)))
-
-pub lower-words : (L M cb cwf : ℕ) → 0 < M
-    → frac (cubic L) 5000000000 *f frac (falls L M cwf - rises M cb) (170 * M) *f frac 1 1000000 ≈f exactLower L M cb cwf
-unfolding exactLower
-lower-words L M cb cwf h =
-    trans≈ {y = frac (cubic L) 5000000000 *f (frac (falls L M cwf - rises M cb) (170 * M) *f frac 1 1000000)} (omega arith)
-    (*-same (b1-words L) (scaled (falls L M cwf) (rises M cb) (170 * M) (frac 1 1000000) (omega arith) (falls-words L M cwf h) (rises-words M cb h)))

@@ -1,14 +1,15 @@
 // Bow height (regulation 39): the freeboard that it asks for.
 ghost use mathlib.Core.Path.{_≡_};
 ghost use Prim.Native.Nat.{_+_, _-_, _*_, _^_, _≤_, _<_};
-ghost use Rattle.bow.specs.Bow.{cubic, rises, falls, higher, lower, sheerTaken, forecastleTaken};
+ghost use Rattle.whole.specs.Frac.{_≈f_, _*f_, whole, frac};
+ghost use Rattle.bow.specs.Bow.{exactB1, exactRises, exactFalls, higher, lower, sheerTaken, forecastleTaken};
 use units::Freeboard;
 use units::Span;
 
 // b1 in 5000000000ths of a um.
 fn cubic_of(l: Span) -> u64
     requires { ⌜ l .0 ≤ 365000 ⌝ }
-    ensures { λ r. ⌜ r ≡ cubic (l .0) ⌝ }
+    ensures { λ r. ⌜ frac r 5000000000 ≈f exactB1 (l .0) ⌝ }
     ensures { λ r. ⌜ r ≤ 34600000000000000 ⌝ }
 {
     let mm = l.0;
@@ -17,8 +18,8 @@ fn cubic_of(l: Span) -> u64
 
 // What b2 adds, in millionths over 170 M.
 fn rise(m: Span, cb: u64) -> u64
-    requires { ⌜ m .0 ≤ 60000 ⌝ }
-    ensures { λ r. ⌜ r ≡ rises (m .0) cb ⌝ }
+    requires { ⌜ (1000 ≤ m .0) × (m .0 ≤ 60000) ⌝ }
+    ensures { λ r. ⌜ frac r (170 * m .0) ≈f exactRises cb *f whole 1000000 ⌝ }
     ensures { λ r. ⌜ r ≤ 457130000 * m .0 ⌝ }
 {
     let depth = m.0;
@@ -27,8 +28,8 @@ fn rise(m: Span, cb: u64) -> u64
 
 // What it takes away.
 fn fall(l: Span, m: Span, cwf: u64) -> u64
-    requires { ⌜ (l .0 ≤ 365000) × (m .0 ≤ 60000) × (cwf ≤ 10000) ⌝ }
-    ensures { λ r. ⌜ r ≡ falls (l .0) (m .0) cwf ⌝ }
+    requires { ⌜ (l .0 ≤ 365000) × (1000 ≤ m .0) × (m .0 ≤ 60000) × (cwf ≤ 10000) ⌝ }
+    ensures { λ r. ⌜ frac r (170 * m .0) ≈f exactFalls (l .0) (m .0) cwf *f whole 1000000 ⌝ }
     ensures { λ r. ⌜ r ≤ 272510000 * m .0 + 941700000000 ⌝ }
 {
     let depth = m.0;

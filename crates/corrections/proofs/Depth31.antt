@@ -1,39 +1,40 @@
--- Regulation 31: the rounded addition against the exact one, and its bound.
+-- Regulation 31: the quotient that code computes, the cost of its rounding, and its bound.
 use mathlib.Core.Path.{_≡_}
-use Prim.Native.Nat.{ℕ, _*_, _-_, _≤_}
+use Prim.Native.Nat.{ℕ, _*_, _-_, _≤_, _<_}
 use native.Mathlib.Omega.{arith}
-use native.Mathlib.Nat.{mul-one, mul-comm}
-use borrow.Author.Tests.{ltb-true}
+use borrow.Author.Tests.{ltb-true, lt-ltb}
 use lib.Dec.{ltb}
-use Rattle.whole.specs.Frac.{Frac, _<f?_, _-f_, _*f_, whole, frac}
+use Rattle.whole.specs.Divide.{ceilDiv}
+use Rattle.whole.specs.Frac.{Frac, _≤f_, _≈f_, _<f?_, _-f_, _*f_, whole, frac}
 use Rattle.whole.specs.Round.{Within}
-use Rattle.whole.proofs.Pick.{by-cases}
-use Rattle.whole.proofs.Divide.{ceil-most, mul-most}
-use Rattle.whole.proofs.Round.{exactly, up, loosen, restate, within-pick, within-pick-in}
+use Rattle.whole.proofs.Pick.{by-cases, pick-true}
+use Rattle.whole.proofs.Frac.{bot-of, trans≤, trans≈, refl≈, *-mono≤, *-same}
+use Rattle.whole.proofs.Round.{by-ceil, ceil-of, ceil-under}
 use Rattle.corrections.specs.Depth31.{rate, depthAddition, exactDepthAddition}
 
-same-test : (l d : ℕ) → (frac l 15 <f? whole d) ≡ ltb l (15 * d)
-same-test l d = rw (mul-one l, mul-comm d 15)
+-- in fifteenths of a mm the difference is whole
+pub depth-quotient : (l d n k : ℕ) → l < 15 * d → 0 < k → frac n k ≈f rate l → ceilDiv ((15 * d - l) * n) (15 * k) ≡ depthAddition l d
+unfolding depthAddition exactDepthAddition
+depth-quotient l d n k h p e =
+    let z : d * 15 - l * 1 ≡ 15 * d - l = omega arith in
+    rw (pick-true (frac l 15 <f? whole d) ((whole d -f frac l 15) *f rate l) (whole 0) (lt-ltb (l * 1) (d * 15) (omega arith)))
+    (ceil-of ((15 * d - l) * n) (15 * k) {x = (whole d -f frac l 15) *f rate l} (omega arith)
+    (trans≈ {y = (whole d -f frac l 15) *f frac n k} (record { eq = rw (bot-of (15 * k) (omega arith), bot-of k p, z) (omega arith) })
+    (*-same (refl≈ (whole d -f frac l 15)) e)))
 
 -- L, D and R are exact: only the rounding costs, 1 um
 pub depth-within : (l d : ℕ) → Within (depthAddition l d) (exactDepthAddition l d) (whole 1)
-unfolding rate depthAddition exactDepthAddition
-depth-within l d =
-    let e : d * 15 - l * 1 ≡ 15 * d - l = omega arith in
-    rw (same-test l d)
-    (within-pick (ltb l (15 * d))
-    (λ t. within-pick-in (λ (r : Frac). (whole d -f frac l 15) *f r) (ltb l 120000) (frac l 480) (whole 250)
-    (λ u. restate (rw e (omega arith)) (up ((15 * d - l) * l) 7200 (omega arith)))
-    (λ u. restate (rw e (omega arith)) (up ((15 * d - l) * 250) 15 (omega arith))))
-    (λ t. loosen (omega arith) (exactly 0)))
+unfolding depthAddition
+depth-within l d = by-ceil (exactDepthAddition l d)
 
 -- it is largest at D = 60 m
+rate-most : (l : ℕ) → rate l ≤f whole 250
+unfolding rate
+rate-most l = by-cases (λ (x : Frac). x ≤f whole 250) (ltb l 120000) _ _ (λ t. omega (arith, ltb-true l 120000 t)) (λ t. omega arith)
+
 pub depth-most : (l d : ℕ) → d ≤ 60000 → depthAddition l d ≤ 15000000
-unfolding depthAddition
+unfolding depthAddition exactDepthAddition
 depth-most l d h =
-    by-cases (λ (n : ℕ). n ≤ 15000000) (ltb l (15 * d)) _ _
-    (λ t. by-cases (λ (n : ℕ). n ≤ 15000000) (ltb l 120000) _ _
-    (λ u. ceil-most ((15 * d - l) * l) 7200 15000000 (omega arith)
-    (mul-most (15 * d - l) l 900000 120000 (omega arith) (omega (arith, ltb-true l 120000 u))))
-    (λ u. ceil-most ((15 * d - l) * 250) 15 15000000 (omega arith) (omega arith)))
-    (λ t. omega arith)
+    ceil-under 15000000
+    (by-cases (λ (x : Frac). x ≤f whole 15000000) (frac l 15 <f? whole d) _ _
+    (λ t. trans≤ (*-mono≤ {x = whole d -f frac l 15} {y = whole 60000} (omega arith) (rate-most l)) (omega arith)) (λ t. omega arith))

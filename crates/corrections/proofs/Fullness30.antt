@@ -2,23 +2,25 @@
 use Prim.Native.Nat.{ℕ, _+_, _*_, _≤_}
 use native.Mathlib.Omega.{arith}
 use lib.Dec.{ltb}
-use Rattle.whole.specs.Frac.{Frac, _+f_, _*f_, whole, frac}
+use Rattle.whole.specs.Frac.{Frac, _≤f_, _+f_, _*f_, whole, frac}
 use Rattle.whole.specs.Round.{Within}
 use Rattle.whole.proofs.Pick.{by-cases}
-use Rattle.whole.proofs.Divide.{ceil-most, mul-most}
-use Rattle.whole.proofs.Round.{loosen, times-up, within-pick}
-use Rattle.corrections.specs.Fullness30.{counted, fullness, exactFullness}
+use Rattle.whole.proofs.Divide.{mul-most}
+use Rattle.whole.proofs.Frac.{refl≤, *-mono≤}
+use Rattle.whole.proofs.Round.{near-above, near-times, near-loosen, near-pick, near-ceil, ceil-under}
+use Rattle.corrections.specs.Fullness30.{fullness, exactFullness}
 
--- what the sum is off by grows with it, by at most 1.68 / 1.36, and the rounding costs 1 um
-pub fullness-within : {c : ℕ} {x e : Frac} (cb : ℕ) → Within c x e → Within (fullness cb c) (exactFullness cb x) (e *f frac 21 17 +f whole 1)
+-- what the sum is off by grows with it, by at most 1.88 / 1.36, and the rounding costs 1 um
+pub fullness-within : {c : ℕ} {x e : Frac} (cb : ℕ) → cb ≤ 12000 → Within c x e → Within (fullness cb c) (exactFullness cb x) (e *f frac 47 34 +f whole 1)
 unfolding fullness exactFullness
-fullness-within cb w =
-    within-pick (ltb 6800 cb) (λ t. times-up (counted cb + 6800) 13600 (omega arith) (omega arith) w) (λ t. loosen (omega arith) w)
+fullness-within {e = e} cb h w =
+    near-ceil (near-pick (ltb 6800 cb)
+    (near-loosen (*-mono≤ (refl≤ e) (omega arith)) (near-times (frac (cb + 6800) 13600) (near-above w)))
+    (near-loosen (omega arith) (near-above w)))
 
-pub fullness-most : (cb sum : ℕ) → fullness cb sum ≤ 2 * sum
-unfolding fullness
-fullness-most cb sum =
-    by-cases (λ (n : ℕ). n ≤ 2 * sum) (ltb 6800 cb) _ _
-    (λ t. ceil-most (sum * (counted cb + 6800)) 13600 (2 * sum) (omega arith)
-    (omega (arith, mul-most sum (counted cb + 6800) sum 16800 (omega arith) (omega arith))))
-    (λ t. omega arith)
+pub fullness-most : (cb sum : ℕ) → cb ≤ 12000 → fullness cb sum ≤ 2 * sum
+unfolding fullness exactFullness
+fullness-most cb sum h =
+    ceil-under (2 * sum)
+    (by-cases (λ (x : Frac). x ≤f whole (2 * sum)) (ltb 6800 cb) _ _
+    (λ t. omega (arith, mul-most sum (cb + 6800) sum 18800 (omega arith) (omega arith))) (λ t. omega arith))

@@ -1,20 +1,17 @@
 -- Regulation 31, deep ships: (D - L / 15) R mm, D and L in metres. D and L in mm make that um.
-use Prim.Native.Nat.{ℕ, _*_, _-_}
+use Prim.Native.Nat.{ℕ}
 use lib.Dec.{ltb}
 use Rattle.whole.specs.Pick.{pick}
-use Rattle.whole.specs.Divide.{ceilDiv}
-use Rattle.whole.specs.Frac.{Frac, _<f?_, _-f_, _*f_, whole, frac}
+use Rattle.whole.specs.Frac.{Frac, _<f?_, _-f_, _*f_, whole, frac, ceil}
 
 -- R = L / 0.48 below 120 m, 250 from 120 m
 unfoldable pub rate : ℕ → Frac
 rate l = pick (ltb l 120000) (frac l 480) (whole 250)
 
--- if D > L / 15, up; otherwise nothing. In fifteenths of a mm the difference is whole, so L / 15 is not rounded.
-unfoldable pub depthAddition : ℕ → ℕ → ℕ
-depthAddition l d =
-    pick (ltb l (15 * d))
-    (pick (ltb l 120000) (ceilDiv ((15 * d - l) * l) 7200) (ceilDiv ((15 * d - l) * 250) 15)) 0
-
--- unrounded
+-- if D > L / 15; otherwise nothing
 unfoldable pub exactDepthAddition : ℕ → ℕ → Frac
 exactDepthAddition l d = pick (frac l 15 <f? whole d) ((whole d -f frac l 15) *f rate l) (whole 0)
+
+-- up
+unfoldable pub depthAddition : ℕ → ℕ → ℕ
+depthAddition l d = ceil (exactDepthAddition l d)

@@ -16,16 +16,13 @@ fn with_short(table: Freeboard, b: bool, length: Span, effective: Effective) -> 
     ensures { λ r. ⌜ r .0 ≡ table .0 + pick b (shortB (length .0) (effective .0)) 0 ⌝ }
     ensures { λ r. ⌜ r .0 ≤ table .0 + 199500 ⌝ }
 {
-    let t = table.0;
     if !b {
-        return Freeboard(t);
+        return table;
     }
-    let s = short::addition(length, effective);
-    let a = s.0;
-    Freeboard(t + a)
+    units::sum(table, short::addition(length, effective))
 }
 
-// The table's freeboard with regulations 29 and 30.
+// The table's freeboard with regulations 29 and 30, for a Cb that counts.
 pub fn made_full(
     table: Freeboard,
     b: bool,
@@ -33,7 +30,7 @@ pub fn made_full(
     cb: u64,
     effective: Effective,
 ) -> Freeboard
-    requires { ⌜ (table .0 ≤ 6000000) × (24000 ≤ length .0) × (length .0 ≤ 365000) ⌝ }
+    requires { ⌜ (table .0 ≤ 6000000) × (24000 ≤ length .0) × (length .0 ≤ 365000) × (cb ≤ 12000) ⌝ }
     ensures { λ r. ⌜ r .0 ≡ fullness cb (table .0 + pick b (shortB (length .0) (effective .0)) 0) ⌝ }
     ensures { λ r. ⌜ r .0 ≤ 2 ^ 24 ⌝ }
 {

@@ -1,10 +1,14 @@
 // Regulation 37: what the houses deduct. The row of percentages is the caller's: it hands over two neighbours of it.
 ghost use mathlib.Core.Path.{_≡_};
 ghost use Prim.Native.Nat.{_*_, _≤_};
-ghost use Rattle.corrections.specs.Deduction37.{full, tenth, shareFrom, ofFull, granted};
+ghost use Rattle.whole.specs.Frac.{whole};
+ghost use Rattle.whole.specs.Pick.{pick};
+ghost use Rattle.corrections.specs.Deduction37.{full, tenth, shareFrom, ofFull, lacksForecastle};
 use units::Effective;
 use units::Freeboard;
 use units::Span;
+use units::freeboard_of_mm;
+use units::sum;
 use whole::lesser;
 use whole::mul_div_down;
 
@@ -16,12 +20,12 @@ pub fn full_amount(length: Span) -> Freeboard
 {
     let l = length.0;
     if l < 85000 {
-        return Freeboard(350000 + mul_div_down(l - 24000, 510, 61));
+        return sum(freeboard_of_mm(350), Freeboard(mul_div_down(l - 24000, 510, 61)));
     }
     if l < 122000 {
-        return Freeboard(860000 + mul_div_down(l - 85000, 210, 37));
+        return sum(freeboard_of_mm(860), Freeboard(mul_div_down(l - 85000, 210, 37)));
     }
-    Freeboard(1070000)
+    freeboard_of_mm(1070)
 }
 
 // The tenth of L in which E ends: the percentages at it and at the next are those that `share` asks for.
@@ -62,14 +66,13 @@ pub fn of_full(length: Span, share: u64) -> Freeboard
 // The deduction, or none where the ship is of type B (`b`) and its forecastle is short, or missing and so of length 0.
 pub fn if_granted(b: bool, forecastle: Effective, length: Span, deduction: Freeboard) -> Freeboard
     requires { ⌜ length .0 ≤ 365000 ⌝ }
-    ensures { λ r. ⌜ r .0 ≡ granted b (forecastle .0) (length .0) (deduction .0) ⌝ }
+    ensures { λ r. ⌜ r .0 ≡ pick (lacksForecastle b (whole (forecastle .0)) (length .0)) 0 (deduction .0) ⌝ }
     ensures { λ r. ⌜ r .0 ≤ deduction .0 ⌝ }
 {
     let f = forecastle.0;
     let l = length.0;
-    let n = deduction.0;
     if b & (f < 70 * l) {
         return Freeboard(0);
     }
-    Freeboard(n)
+    deduction
 }

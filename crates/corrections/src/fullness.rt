@@ -14,14 +14,14 @@ pub fn counted_block(cb: u64) -> u64
     lesser(cb, 10000)
 }
 
+// The sum so far, for a Cb that counts.
 pub fn corrected(cb: u64, sum: Freeboard) -> Freeboard
-    requires { ⌜ sum .0 ≤ 2 ^ 32 ⌝ }
+    requires { ⌜ (cb ≤ 12000) × (sum .0 ≤ 2 ^ 32) ⌝ }
     ensures { λ r. ⌜ r .0 ≡ fullness cb (sum .0) ⌝ }
     ensures { λ r. ⌜ r .0 ≤ 2 * sum .0 ⌝ }
 {
-    let s = sum.0;
     if cb <= 6800 {
-        return Freeboard(s);
+        return sum;
     }
-    Freeboard(mul_div_up(s, counted_block(cb) + 6800, 13600))
+    Freeboard(mul_div_up(sum.0, cb + 6800, 13600))
 }

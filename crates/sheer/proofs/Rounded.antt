@@ -1,42 +1,33 @@
--- The rounded sheer is the regulation's own, of specs/Exact.antt, with 01's roundings put in and no others: the mean down, the addition up, the deduction down.
-use Prim.Native.Nat.{ℕ, suc, _+_, _*_, _-_, _/_, _≤_, _<_, min}
-use mathlib.Core.Path.{_≡_, sym, ap₂, _∙_}
-use mathlib.Core.List.{List}
+-- The quotients that code computes are the rounded rules.
+use Prim.Native.Nat.{ℕ, _+_, _*_, _-_, _/_, _≤_, _<_, min}
+use mathlib.Core.Path.{_≡_, sym, _∙_}
 use native.Mathlib.Omega.{arith, min-cases}
 use native.Mathlib.Nat.{mul-pos, mul-comm, mul-le-mul-right, mul-lt-mul-of-pos-right, lt-of-mul-lt-mul-right, mul-div-mul-right, div-mul-le-self, lt-div-mul-add, min-eq-left, min-eq-right}
 use Rattle.whole.specs.Divide.{ceilDiv}
-use Rattle.whole.specs.Frac.{Frac, _≤f_, _≈f_, _*f_, _-f_, minf, whole, frac, ceil, floor}
-use Rattle.whole.proofs.Divide.{ceil-cancel}
-use Rattle.whole.proofs.Frac.{refl≈, trans≈, *-same}
-use Rattle.whole.proofs.Signed.{signed-floor}
-use Rattle.sheer.specs.Sheer.{afterMm, forwardMm, afterSum, forwardSum, parts, meanAbove, meanLacks, excess, deficiency, addition, deduction, added, deducted}
-use Rattle.sheer.specs.Exact.{exactExcess, exactDeficiency}
-use Rattle.sheer.proofs.Words.{parts-pos, deficiency-words, excess-words, factor-words, covered-words}
+use Rattle.whole.specs.Frac.{Frac, _≤f_, _<f_, _≈f_, _+f_, _*f_, _-f_, minf, whole, frac, floor}
+use Rattle.whole.proofs.Frac.{refl≈, trans≈, *-same, sub-same, one-bottom}
+use Rattle.whole.proofs.Round.{ceil-of, floor-of}
+use Rattle.whole.proofs.Signed.{signed-down}
+use Rattle.sheer.specs.Sheer.{exactMeanAbove, exactMeanLacks, exactExcess, exactDeficiency, exactAddition, exactDeduction, excess, deficiency, addition, deduction}
+use Rattle.sheer.proofs.Words.{factor-words, covered-words}
 
--- ---- equal fractions have the same whole numbers next above and below
-ceil-of : (m d : ℕ) (x : Frac) → 0 < d → frac m d ≈f x → ceilDiv m d ≡ ceil x
-ceil-of m (suc d) x h e =
-    sym (ceil-cancel m (suc d) (x .bot) h (x .pos)) ∙ ap₂ ceilDiv (e .eq) (omega arith) ∙ ceil-cancel (x .top) (x .bot) (suc d) (x .pos) h
+-- ---- the mean
+pub deficiency-quotient : (a f L p q d : ℕ) → 0 < d → frac p d ≈f exactMeanAbove a f L → frac q d ≈f exactMeanLacks a f L → ceilDiv (q - p) d ≡ deficiency a f L
+unfolding deficiency exactDeficiency
+deficiency-quotient a f L p q d h m n =
+    ceil-of (q - p) d {x = exactMeanLacks a f L -f exactMeanAbove a f L} h (trans≈ (one-bottom q p d h) (sub-same n m))
 
-floor-of : (m d : ℕ) (x : Frac) → 0 < d → frac m d ≈f x → m / d ≡ floor x
-floor-of m (suc d) x h e =
-    sym (mul-div-mul-right m (suc d) (x .pos)) ∙ ap₂ _/_ (e .eq) (omega arith) ∙ mul-div-mul-right (x .top) (x .bot) h
+pub excess-quotient : (a f L p q d : ℕ) → 0 < d → frac p d ≈f exactMeanAbove a f L → frac q d ≈f exactMeanLacks a f L → (p - q) / d ≡ excess a f L
+unfolding excess exactExcess
+excess-quotient a f L p q d h m n =
+    floor-of (p - q) d {x = exactMeanAbove a f L -f exactMeanLacks a f L} h (trans≈ (one-bottom p q d h) (sub-same m n))
 
--- The mean is the exact one rounded down: a deficiency up, an excess down
-pub deficiency-up : (a f L : ℕ) → deficiency (30000 * a) (30000 * f) L ≡ ceil (exactDeficiency a f L)
-unfolding deficiency
-deficiency-up a f L = ceil-of (meanLacks (30000 * a) (30000 * f) L - meanAbove (30000 * a) (30000 * f) L) (parts L) (exactDeficiency a f L) (parts-pos L) (deficiency-words a f L)
-
-pub excess-down : (a f L : ℕ) → excess (30000 * a) (30000 * f) L ≡ floor (exactExcess a f L)
-unfolding excess
-excess-down a f L = floor-of (meanAbove (30000 * a) (30000 * f) L - meanLacks (30000 * a) (30000 * f) L) (parts L) (exactExcess a f L) (parts-pos L) (excess-words a f L)
-
--- and so of the signed mean: (excess - deficiency) parts ≤ above - lacks < (excess - deficiency + 1) parts, each term on the side where it is not negative
+-- of the signed mean it is the number next below
 pub mean-down : (a f L : ℕ)
-    → (excess a f L * parts L + meanLacks a f L ≤ meanAbove a f L + deficiency a f L * parts L)
-    × (meanAbove a f L + deficiency a f L * parts L < excess a f L * parts L + meanLacks a f L + parts L)
-unfolding excess deficiency
-mean-down a f L = signed-floor (meanAbove a f L) (meanLacks a f L) (parts L) (parts-pos L)
+    → (whole (excess a f L) +f exactMeanLacks a f L ≤f exactMeanAbove a f L +f whole (deficiency a f L))
+    × (exactMeanAbove a f L +f whole (deficiency a f L) <f whole (excess a f L) +f exactMeanLacks a f L +f whole 1)
+unfolding excess deficiency exactExcess exactDeficiency
+mean-down a f L = signed-down (exactMeanAbove a f L) (exactMeanLacks a f L)
 
 floor-mono : (x y : Frac) → x ≤f y → floor x ≤ floor y
 floor-mono x y h =
@@ -57,24 +48,19 @@ floor-lesser x y =
     (λ p q. rw (q, mul-comm (x .bot) (y .bot)) (min-eq-right (floor-mono y x (record { le = p })) ∙ sym (mul-div-mul-right (y .top) (y .bot) (x .pos))))
 
 -- ---- the correction
-pub added-up : (o : List ℕ) (L S : ℕ) → 0 < L
-    → added o L S ≡ ceil (whole (ceil (exactDeficiency (afterMm o) (forwardMm o) L)) *f (frac 3 4 -f frac S (2 * L)))
-unfolding added addition afterSum forwardSum
-added-up o L S h =
-    let d = ceil (exactDeficiency (afterMm o) (forwardMm o) L) in
-    rw (deficiency-up (afterMm o) (forwardMm o) L)
-    (ceil-of (d * (3 * L - 2 * S)) (4 * L) (whole d *f (frac 3 4 -f frac S (2 * L))) (omega arith)
-    (trans≈ {y = whole d *f frac (3 * L - 2 * S) (4 * L)} (omega arith) (*-same (refl≈ (whole d)) (factor-words L S h))))
+pub addition-quotient : (d L S : ℕ) → 0 < L → ceilDiv (d * (3 * L - 2 * S)) (4 * L) ≡ addition d L S
+unfolding addition exactAddition
+addition-quotient d L S h =
+    ceil-of (d * (3 * L - 2 * S)) (4 * L) {x = whole d *f (frac 3 4 -f frac S (2 * L))} (omega arith)
+    (trans≈ {y = whole d *f frac (3 * L - 2 * S) (4 * L)} (omega arith) (*-same (refl≈ (whole d)) (factor-words L S h)))
 
-pub deducted-down : (o : List ℕ) (L S reach : ℕ) → 0 < L
-    → deducted o L S reach ≡ floor (minf (whole (floor (exactExcess (afterMm o) (forwardMm o) L)) *f (frac 3 4 -f frac S (2 * L)) *f frac reach (2 * L)) (frac (5 * L) 4))
-unfolding deducted deduction afterSum forwardSum
-deducted-down o L S reach h =
-    let e = floor (exactExcess (afterMm o) (forwardMm o) L) in
+pub deduction-quotient : (e L S reach : ℕ) → 0 < L → min (e * ((3 * L - 2 * S) * reach) / (8 * (L * L))) (5 * L / 4) ≡ deduction e L S reach
+unfolding deduction exactDeduction
+deduction-quotient e L S reach h =
     let n = (3 * L - 2 * S) * reach in
     let x = whole e *f (frac 3 4 -f frac S (2 * L)) *f frac reach (2 * L) in
     let full : e * n / (8 * (L * L)) ≡ floor x =
-    floor-of (e * n) (8 * (L * L)) x (omega (arith, mul-pos h h))
+    floor-of (e * n) (8 * (L * L)) {x = x} (omega (arith, mul-pos h h))
     (trans≈ {y = whole e *f frac n (8 * (L * L))} (omega arith)
     (trans≈ {y = whole e *f ((frac 3 4 -f frac S (2 * L)) *f frac reach (2 * L))} (*-same (refl≈ (whole e)) (covered-words L S reach h)) (omega arith))) in
-    rw (excess-down (afterMm o) (forwardMm o) L, full) (floor-lesser x (frac (5 * L) 4))
+    rw full (floor-lesser x (frac (5 * L) 4))

@@ -1,134 +1,122 @@
--- The mean of specs/Sheer.antt, before it is rounded, is the regulation's own of specs/Exact.antt: part by part, then whole.
-use Prim.Native.Nat.{ℕ, _+_, _*_, _-_, _<_}
-use mathlib.Core.Path.{_≡_, sym, ap, _∙_}
-use mathlib.Core.Bool.{not}
+-- The numbers that code computes are the regulation's fractions. Sums of code are in 30000ths of a mm, where the standard is whole.
+use Prim.Native.Nat.{ℕ, _+_, _*_, _-_, _≤_, _<_}
+use mathlib.Core.Path.{_≡_, ap, _∙_}
 use native.Mathlib.Omega.{arith}
-use native.Mathlib.Decide.{decLt}
 use native.Mathlib.Nat.{mul-pos}
-use lib.Dec.{leb, ltb}
-use borrow.Author.Tests.{le-leb, lt-leb, le-ltb, lt-ltb}
+use lib.Dec.{leb}
+use borrow.Author.Tests.{le-leb, lt-leb}
+use Rattle.whole.specs.Pick.{pick}
 use Rattle.whole.specs.Frac.{Frac, _≈f_, _+f_, _*f_, _-f_, _÷f_, whole, frac, _≤f?_}
-use Rattle.whole.proofs.Frac.{≤?-same, pick-same, bot-of, refl≈, sym≈, trans≈, +-same, *-same, sub-same, ÷-same, one-bottom}
+use Rattle.whole.proofs.Frac.{≤?-same, bot-of, refl≈, sym≈, trans≈, +-same, *-same, sub-same, ÷-same}
 use Rattle.whole.proofs.Divide.{sub-mul}
 use Rattle.whole.proofs.Pick.{same-test}
-use Rattle.sheer.specs.Sheer.{lift, standardAfter, standardForward, above, lacks, afterCounts, forwardShare, parts, meanAbove, meanLacks}
-use Rattle.sheer.specs.Exact.{unit, exactStandardAfter, exactStandardForward, liftMm, exactAbove, exactLacks, exactAfterCounts, exactShare, exactMeanAbove, exactMeanLacks, exactExcess, exactDeficiency}
+use Rattle.sheer.specs.Sheer.{unit, exactStandardAfter, exactStandardForward, liftMm, exactAbove, exactLacks, exactAfterCounts, exactShare}
 
-standard-pos : (L : ℕ) → 0 < standardAfter L
-unfolding standardAfter
-standard-pos L = omega arith
+-- 7 · 8192 mm
+abbrev pub lift : ℕ
+lift = 1720320000
 
-exact-pos : (L : ℕ) → 0 < exactStandardAfter L .top
+pub after-same : (L : ℕ) → frac (667 * (L + 30000)) 30000 ≈f exactStandardAfter L
+unfolding exactStandardAfter unit
+after-same L = omega arith
+
+pub forward-same : (L : ℕ) → frac (1334 * (L + 30000)) 30000 ≈f exactStandardForward L
+unfolding exactStandardForward unit
+forward-same L = omega arith
+
+pub exact-pos : (L : ℕ) → 0 < exactStandardAfter L .top
 unfolding exactStandardAfter unit
 exact-pos L = omega arith
 
--- ---- the standard, and a half's excess and deficiency
-after-same : (L : ℕ) → frac (standardAfter L) 30000 ≈f exactStandardAfter L
-unfolding standardAfter exactStandardAfter unit
-after-same L = omega arith
+-- ---- a half whose standard is w, or x mm
+module _ (sum w : ℕ) (x : Frac) (h : frac w 30000 ≈f x) where
+  pub above-same : frac (30000 * sum - (lift + w)) 240 ≈f exactAbove sum x
+  unfolding exactAbove
+  above-same =
+      trans≈ {y = (whole sum -f (liftMm +f frac w 30000)) *f frac 1000 8} (omega arith)
+      (*-same (sub-same (refl≈ (whole sum)) (+-same (refl≈ liftMm) h)) (refl≈ (frac 1000 8)))
 
-forward-same : (L : ℕ) → frac (standardForward L) 30000 ≈f exactStandardForward L
-unfolding standardForward exactStandardForward unit
-forward-same L = omega arith
+  pub lacks-same : frac (lift + w - 30000 * sum) 240 ≈f exactLacks sum x
+  unfolding exactLacks
+  lacks-same =
+      trans≈ {y = (liftMm +f frac w 30000 -f whole sum) *f frac 1000 8} (omega arith)
+      (*-same (sub-same (+-same (refl≈ liftMm) h) (refl≈ (whole sum))) (refl≈ (frac 1000 8)))
 
-above-same : {x : Frac} (sum w : ℕ) → frac w 30000 ≈f x → frac (above (30000 * sum) w) 240 ≈f exactAbove sum x
-unfolding above exactAbove
-above-same sum w h =
-    trans≈ {y = (whole sum -f (liftMm +f frac w 30000)) *f frac 1000 8} (omega arith)
-    (*-same (sub-same (refl≈ (whole sum)) (+-same (refl≈ liftMm) h)) (refl≈ (frac 1000 8)))
+  pub reached : ((liftMm +f x) ≤f? whole sum) ≡ leb (lift + w) (30000 * sum)
+  reached =
+      let y = liftMm +f frac w 30000 in
+      ≤?-same (+-same (refl≈ liftMm) (sym≈ h)) (refl≈ (whole sum))
+      ∙ same-test (y .top * 1) (sum * y .bot) (lift + w) (30000 * sum) (λ t. omega arith) (λ t. omega arith)
 
-lacks-same : {x : Frac} (sum w : ℕ) → frac w 30000 ≈f x → frac (lacks (30000 * sum) w) 240 ≈f exactLacks sum x
-unfolding lacks exactLacks
-lacks-same sum w h =
-    trans≈ {y = (liftMm +f frac w 30000 -f whole sum) *f frac 1000 8} (omega arith)
-    (*-same (sub-same (+-same (refl≈ liftMm) h) (refl≈ (whole sum))) (refl≈ (frac 1000 8)))
+  pub three-quarters : ((liftMm +f frac 3 4 *f x) ≤f? whole sum) ≡ leb (4 * lift + 3 * w) (120000 * sum)
+  three-quarters =
+      let y = liftMm +f frac 3 4 *f frac w 30000 in
+      ≤?-same (+-same (refl≈ liftMm) (*-same (refl≈ (frac 3 4)) (sym≈ h))) (refl≈ (whole sum))
+      ∙ same-test (y .top * 1) (sum * y .bot) (4 * lift + 3 * w) (120000 * sum) (λ t. omega arith) (λ t. omega arith)
 
--- ---- what counts: each test agrees with its own in fractions
-lacks-test : (forward w : ℕ) → ltb 0 (lacks (30000 * forward) w) ≡ not ((liftMm +f frac w 30000) ≤f? whole forward)
-unfolding lacks
-lacks-test forward w =
-    let x = liftMm +f frac w 30000 in
-    elim (decLt (30000 * forward) (lift + w)) [
-      | yes t ↦ lt-ltb 0 (lift + w - 30000 * forward) (omega arith) ∙ ap not (sym (lt-leb (x .top * 1) (forward * x .bot) (omega arith)))
-      | no t ↦ le-ltb 0 (lift + w - 30000 * forward) (omega arith) ∙ ap not (sym (le-leb (x .top * 1) (forward * x .bot) (omega arith)))
-    ]
+  pub one-half : (whole sum ≤f? (liftMm +f frac 1 2 *f x)) ≡ leb (60000 * sum) (2 * lift + w)
+  one-half =
+      let y = liftMm +f frac 1 2 *f frac w 30000 in
+      ≤?-same (refl≈ (whole sum)) (+-same (refl≈ liftMm) (*-same (refl≈ (frac 1 2)) (sym≈ h)))
+      ∙ same-test (sum * y .bot) (y .top * 1) (60000 * sum) (2 * lift + w) (λ t. omega arith) (λ t. omega arith)
 
-after-counts-same : (after forward L : ℕ) → frac (afterCounts (30000 * after) (30000 * forward) L) 240 ≈f exactAfterCounts after forward L
-unfolding afterCounts exactAfterCounts
-after-counts-same after forward L =
-    let e : not ((liftMm +f exactStandardForward L) ≤f? whole forward) ≡ ltb 0 (lacks (30000 * forward) (standardForward L)) =
-    sym (lacks-test forward (standardForward L) ∙ ap not (≤?-same (+-same (refl≈ liftMm) (forward-same L)) (refl≈ (whole forward)))) in
-    rw e (pick-same (ltb 0 (lacks (30000 * forward) (standardForward L))) 240 (omega arith) (above-same after (standardAfter L) (after-same L)))
+  pub linear-same : 0 < w → 0 < x .top → frac (120000 * sum - (4 * lift + 2 * w)) w ≈f ((whole sum -f liftMm) ÷f x -f frac 1 2) *f whole 4
+  linear-same p q =
+      let z = whole sum -f liftMm in
+      let e : 120000 * sum - (4 * lift + 2 * w) ≡ 2 * (z .top * 30000 * 2 - 1 * (1 * w)) = omega arith in
+      trans≈ {y = (z ÷f frac w 30000 -f frac 1 2) *f whole 4}
+      (record { eq = rw (bot-of w p, bot-of (1 * w) (omega arith)) (omega (arith, ap (λ (t : ℕ). t * w) e)) })
+      (*-same (sub-same (÷-same p q (refl≈ z) h) (refl≈ (frac 1 2))) (refl≈ (whole 4)))
 
-three-quarters : (sum L : ℕ) → ((liftMm +f frac 3 4 *f exactStandardAfter L) ≤f? whole sum) ≡ leb (4 * lift + 3 * standardAfter L) (4 * (30000 * sum))
-three-quarters sum L =
-    let x = liftMm +f frac 3 4 *f frac (standardAfter L) 30000 in
-    ≤?-same (+-same (refl≈ liftMm) (*-same (refl≈ (frac 3 4)) (sym≈ (after-same L)))) (refl≈ (whole sum))
-    ∙ same-test (x .top * 1) (sum * x .bot) (4 * lift + 3 * standardAfter L) (4 * (30000 * sum)) (λ h. omega arith) (λ h. omega arith)
+-- ---- what counts, by the tests of code
+pub after-none : (a f L : ℕ) → 30000 * f < lift + 1334 * (L + 30000) → frac 0 240 ≈f exactAfterCounts a f L
+unfolding pick exactAfterCounts
+after-none a f L t = simp (reached f (1334 * (L + 30000)) (exactStandardForward L) (forward-same L), lt-leb (lift + 1334 * (L + 30000)) (30000 * f) t) (omega arith)
 
-one-half : (sum L : ℕ) → (whole sum ≤f? (liftMm +f frac 1 2 *f exactStandardAfter L)) ≡ leb (2 * (30000 * sum)) (2 * lift + standardAfter L)
-one-half sum L =
-    let x = liftMm +f frac 1 2 *f frac (standardAfter L) 30000 in
-    ≤?-same (refl≈ (whole sum)) (+-same (refl≈ liftMm) (*-same (refl≈ (frac 1 2)) (sym≈ (after-same L))))
-    ∙ same-test (sum * x .bot) (x .top * 1) (2 * (30000 * sum)) (2 * lift + standardAfter L) (λ h. omega arith) (λ h. omega arith)
+pub after-whole : (a f L : ℕ) → lift + 1334 * (L + 30000) ≤ 30000 * f → frac (30000 * a - (lift + 667 * (L + 30000))) 240 ≈f exactAfterCounts a f L
+unfolding pick exactAfterCounts
+after-whole a f L t =
+    simp (reached f (1334 * (L + 30000)) (exactStandardForward L) (forward-same L), le-leb (lift + 1334 * (L + 30000)) (30000 * f) t)
+    (above-same a (667 * (L + 30000)) (exactStandardAfter L) (after-same L))
 
-linear-same : (sum L : ℕ)
-    → frac (4 * (30000 * sum) - (4 * lift + 2 * standardAfter L)) (standardAfter L) ≈f ((whole sum -f liftMm) ÷f exactStandardAfter L -f frac 1 2) *f whole 4
-linear-same sum L =
-    let w = standardAfter L in
-    let p = standard-pos L in
-    let x = whole sum -f liftMm in
-    let e : 4 * (30000 * sum) - (4 * lift + 2 * w) ≡ 2 * (x .top * 30000 * 2 - 1 * (1 * w)) = omega arith in
-    trans≈ {y = (x ÷f frac w 30000 -f frac 1 2) *f whole 4}
-    (record { eq = rw (bot-of w p, bot-of (1 * w) (omega arith)) (omega (arith, ap (λ (t : ℕ). t * w) e)) })
-    (*-same (sub-same (÷-same p (exact-pos L) (refl≈ x) (after-same L)) (refl≈ (frac 1 2))) (refl≈ (whole 4)))
+module _ (sum L : ℕ) where
+  pub share-whole : 4 * lift + 3 * (667 * (L + 30000)) ≤ 120000 * sum → frac (667 * (L + 30000)) (667 * (L + 30000)) ≈f exactShare sum (exactStandardAfter L)
+  unfolding pick exactShare
+  share-whole t =
+      simp (three-quarters sum (667 * (L + 30000)) (exactStandardAfter L) (after-same L), le-leb (4 * lift + 3 * (667 * (L + 30000))) (120000 * sum) t)
+      (record { eq = rw (bot-of (667 * (L + 30000)) (omega arith)) (omega arith) })
 
-share-same : (sum L : ℕ) → frac (forwardShare (30000 * sum) (standardAfter L)) (standardAfter L) ≈f exactShare sum (exactStandardAfter L)
-unfolding forwardShare exactShare
-share-same sum L =
-    let w = standardAfter L in
-    let p = standard-pos L in
-    rw (three-quarters sum L, one-half sum L)
-    (pick-same (leb (4 * lift + 3 * w) (4 * (30000 * sum))) w (record { eq = rw (bot-of w p) (omega arith) })
-    (pick-same (leb (2 * (30000 * sum)) (2 * lift + w)) w (omega arith) (linear-same sum L)))
+  pub share-none : 120000 * sum < 4 * lift + 3 * (667 * (L + 30000)) → 60000 * sum ≤ 2 * lift + 667 * (L + 30000) → frac 0 (667 * (L + 30000)) ≈f exactShare sum (exactStandardAfter L)
+  unfolding pick exactShare
+  share-none t u =
+      simp (
+        three-quarters sum (667 * (L + 30000)) (exactStandardAfter L) (after-same L),
+        lt-leb (4 * lift + 3 * (667 * (L + 30000))) (120000 * sum) t,
+        one-half sum (667 * (L + 30000)) (exactStandardAfter L) (after-same L),
+        le-leb (60000 * sum) (2 * lift + 667 * (L + 30000)) u,
+      ) (omega arith)
 
--- ---- the mean
-mean-above-same : (after forward L : ℕ) → frac (meanAbove (30000 * after) (30000 * forward) L) (parts L) ≈f exactMeanAbove after forward L
-unfolding meanAbove parts exactMeanAbove
-mean-above-same after forward L =
-    let w = standardAfter L in
-    let p = standard-pos L in
-    let s = forwardShare (30000 * after) w in
-    trans≈ {y = (frac (afterCounts (30000 * after) (30000 * forward) L) 240 +f frac (above (30000 * forward) (standardForward L)) 240 *f frac s w) *f frac 1 2}
-    (record { eq = rw (bot-of (480 * w) (omega arith), bot-of w p) (omega arith) })
-    (*-same (+-same (after-counts-same after forward L) (*-same (above-same forward (standardForward L) (forward-same L)) (share-same after L))) (refl≈ (frac 1 2)))
+  pub share-linear : 120000 * sum < 4 * lift + 3 * (667 * (L + 30000)) → 2 * lift + 667 * (L + 30000) < 60000 * sum
+      → frac (120000 * sum - (4 * lift + 2 * (667 * (L + 30000)))) (667 * (L + 30000)) ≈f exactShare sum (exactStandardAfter L)
+  unfolding pick exactShare
+  share-linear t u =
+      simp (
+        three-quarters sum (667 * (L + 30000)) (exactStandardAfter L) (after-same L),
+        lt-leb (4 * lift + 3 * (667 * (L + 30000))) (120000 * sum) t,
+        one-half sum (667 * (L + 30000)) (exactStandardAfter L) (after-same L),
+        lt-leb (60000 * sum) (2 * lift + 667 * (L + 30000)) u,
+      ) (linear-same sum (667 * (L + 30000)) (exactStandardAfter L) (after-same L) (omega arith) (exact-pos L))
 
-mean-lacks-same : (after forward L : ℕ) → frac (meanLacks (30000 * after) (30000 * forward) L) (parts L) ≈f exactMeanLacks after forward L
-unfolding meanLacks parts exactMeanLacks
-mean-lacks-same after forward L =
-    let w = standardAfter L in
-    trans≈ {y = (frac (lacks (30000 * after) w) 240 +f frac (lacks (30000 * forward) (standardForward L)) 240) *f frac 1 2}
-    (record { eq = rw (bot-of (480 * w) (omega (arith, standard-pos L))) (omega arith) })
-    (*-same (+-same (lacks-same after w (after-same L)) (lacks-same forward (standardForward L) (forward-same L))) (refl≈ (frac 1 2)))
+-- ---- the mean of both halves
+pub mean-above : {x y z : Frac} (c g s w : ℕ) → 0 < w → frac c 240 ≈f x → frac g 240 ≈f y → frac s w ≈f z → frac (c * w + g * s) (480 * w) ≈f (x +f y *f z) *f frac 1 2
+mean-above c g s w p h k e =
+    trans≈ {y = (frac c 240 +f frac g 240 *f frac s w) *f frac 1 2} (record { eq = rw (bot-of (480 * w) (omega arith), bot-of w p) (omega arith) })
+    (*-same (+-same h (*-same k e)) (refl≈ (frac 1 2)))
 
--- The mean's deficiency and excess over its parts are the regulation's
-pub parts-pos : (L : ℕ) → 0 < parts L
-unfolding parts standardAfter
-parts-pos L = omega arith
-
-pub deficiency-words : (after forward L : ℕ)
-    → frac (meanLacks (30000 * after) (30000 * forward) L - meanAbove (30000 * after) (30000 * forward) L) (parts L) ≈f exactDeficiency after forward L
-unfolding exactDeficiency
-deficiency-words after forward L =
-    trans≈ (one-bottom (meanLacks (30000 * after) (30000 * forward) L) (meanAbove (30000 * after) (30000 * forward) L) (parts L) (parts-pos L))
-    (sub-same (mean-lacks-same after forward L) (mean-above-same after forward L))
-
-pub excess-words : (after forward L : ℕ)
-    → frac (meanAbove (30000 * after) (30000 * forward) L - meanLacks (30000 * after) (30000 * forward) L) (parts L) ≈f exactExcess after forward L
-unfolding exactExcess
-excess-words after forward L =
-    trans≈ (one-bottom (meanAbove (30000 * after) (30000 * forward) L) (meanLacks (30000 * after) (30000 * forward) L) (parts L) (parts-pos L))
-    (sub-same (mean-above-same after forward L) (mean-lacks-same after forward L))
+pub mean-lacks : {x y : Frac} (m n w : ℕ) → 0 < w → frac m 240 ≈f x → frac n 240 ≈f y → frac ((m + n) * w) (480 * w) ≈f (x +f y) *f frac 1 2
+mean-lacks m n w p h k =
+    trans≈ {y = (frac m 240 +f frac n 240) *f frac 1 2} (record { eq = rw (bot-of (480 * w) (omega arith)) (omega arith) })
+    (*-same (+-same h k) (refl≈ (frac 1 2)))
 
 -- ---- 0.75 - S / 2L, alone and with the cover
 pub factor-words : (L S : ℕ) → 0 < L → frac (3 * L - 2 * S) (4 * L) ≈f frac 3 4 -f frac S (2 * L)

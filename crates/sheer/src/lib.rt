@@ -1,12 +1,16 @@
 // Sheer (regulation 38): what it adds to the freeboard and what it deducts, one of them 0.
 ghost use mathlib.Core.Path.{_≡_};
 ghost use Prim.Native.Nat.{_+_, _*_, _≤_, _<_};
-ghost use Rattle.sheer.specs.Sheer.{Lifted, weighted, afterCounts, forwardShare, meanAbove, meanLacks, excess, deficiency, addition, deduction, afterSum, forwardSum};
+ghost use Rattle.whole.specs.Frac.{_≈f_, frac};
+ghost use Rattle.units.specs.Datum.{lift, Lifted};
+ghost use Rattle.sheer.specs.Sheer.{weighted, standardAfter, afterCounts, forwardShare, meanAbove, meanLacks, excess, deficiency, addition, deduction, afterSum, forwardSum};
 use units::Freeboard;
+use units::LIFT;
+use units::Ordinate;
 use units::Span;
 
-// Seven ordinates' lift of 8192 mm, in 30000ths of a millimetre.
-const LIFT: u64 = 1720320000;
+// Sums are in 30000ths of a millimetre, where the standard is whole. The lift of a half's seven ordinates:
+const LIFT7: u64 = 30000 * (7 * LIFT);
 
 // The correction in its two parts.
 pub struct Correction {
@@ -20,68 +24,67 @@ pub struct Mean {
     pub excess: Freeboard,
 }
 
-// A half's sum of three lifted ordinates, in 30000ths of a millimetre.
-fn half(perpendicular: u64, sixth: u64, third: u64) -> u64
-    requires { ⌜ (perpendicular < 16384) × (sixth < 16384) × (third < 16384) ⌝ }
-    ensures { λ r. ⌜ r ≡ 30000 * weighted perpendicular sixth third ⌝ }
-    ensures { λ r. ⌜ r ≤ 3440430000 ⌝ }
+// A half's sum of three ordinates, in millimetres.
+fn half(perpendicular: Ordinate, sixth: Ordinate, third: Ordinate) -> u64
+    requires { ⌜ (perpendicular .0 < lift + lift) × (sixth .0 < lift + lift) × (third .0 < lift + lift) ⌝ }
+    ensures { λ r. ⌜ r ≡ weighted (perpendicular .0) (sixth .0) (third .0) ⌝ }
+    ensures { λ r. ⌜ r ≤ 14 * lift ⌝ }
 {
-    30000 * (perpendicular + 3 * sixth + 3 * third)
+    let p = perpendicular.0;
+    let s = sixth.0;
+    let t = third.0;
+    p + 3 * s + 3 * t
 }
 
 // What of a forward excess counts, over the after half's standard w.
-fn share(a: u64, w: u64) -> u64
-    requires { ⌜ (a ≤ 3440430000) × (w ≤ 263465000) ⌝ }
-    ensures { λ r. ⌜ r ≡ forwardShare a w ⌝ }
-    ensures { λ r. ⌜ r ≤ w ⌝ }
+fn share(a: u64, l: Span) -> u64
+    requires { ⌜ (a ≤ 14 * lift) × (l .0 ≤ 365000) ⌝ }
+    ensures { λ r. ⌜ frac r (667 * (l .0 + 30000)) ≈f forwardShare a (standardAfter (l .0)) ⌝ }
+    ensures { λ r. ⌜ r ≤ 667 * (l .0 + 30000) ⌝ }
 {
-    if 4 * LIFT + 3 * w <= 4 * a {
-        return w;
-    }
-    if 2 * a <= 2 * LIFT + w {
-        return 0;
-    }
-    4 * a - (4 * LIFT + 2 * w)
+    let mm = l.0;
+    let w = 667 * (mm + 30000);
+    whole::lesser(w, whole::less(120000 * a, 4 * LIFT7 + 2 * w))
 }
 
 // What of an after excess counts.
 fn after(a: u64, f: u64, l: Span) -> u64
-    requires { ⌜ (a ≤ 3440430000) × (f ≤ 3440430000) × (l .0 ≤ 365000) ⌝ }
-    ensures { λ r. ⌜ r ≡ afterCounts a f (l .0) ⌝ }
-    ensures { λ r. ⌜ r ≤ 1720110000 ⌝ }
+    requires { ⌜ (a ≤ 14 * lift) × (f ≤ 14 * lift) × (l .0 ≤ 365000) ⌝ }
+    ensures { λ r. ⌜ frac r 240 ≈f afterCounts a f (l .0) ⌝ }
+    ensures { λ r. ⌜ r ≤ 1721000000 ⌝ }
 {
     let mm = l.0;
-    if f < LIFT + 1334 * (mm + 30000) {
+    if 30000 * f < LIFT7 + 1334 * (mm + 30000) {
         return 0;
     }
-    whole::less(a, LIFT + 667 * (mm + 30000))
+    whole::less(30000 * a, LIFT7 + 667 * (mm + 30000))
 }
 
 // Both halves' excess as it counts, over 480 after standards.
 fn over(a: u64, f: u64, l: Span) -> u64
-    requires { ⌜ (a ≤ 3440430000) × (f ≤ 3440430000) × (l .0 ≤ 365000) ⌝ }
-    ensures { λ r. ⌜ r ≡ meanAbove a f (l .0) ⌝ }
-    ensures { λ r. ⌜ r ≤ 3440220000 * (667 * (l .0 + 30000)) ⌝ }
+    requires { ⌜ (a ≤ 14 * lift) × (f ≤ 14 * lift) × (l .0 ≤ 365000) ⌝ }
+    ensures { λ r. ⌜ frac r (480 * (667 * (l .0 + 30000))) ≈f meanAbove a f (l .0) ⌝ }
+    ensures { λ r. ⌜ r ≤ 3442000000 * (667 * (l .0 + 30000)) ⌝ }
 {
     let mm = l.0;
     let w = 667 * (mm + 30000);
-    after(a, f, l) * w + whole::less(f, LIFT + 1334 * (mm + 30000)) * share(a, w)
+    after(a, f, l) * w + whole::less(30000 * f, LIFT7 + 1334 * (mm + 30000)) * share(a, l)
 }
 
 // Both halves' deficiency, over 480 after standards.
 fn under(a: u64, f: u64, l: Span) -> u64
-    requires { ⌜ (a ≤ 3440430000) × (f ≤ 3440430000) × (l .0 ≤ 365000) ⌝ }
-    ensures { λ r. ⌜ r ≡ meanLacks a f (l .0) ⌝ }
-    ensures { λ r. ⌜ r ≤ 4231035000 * (667 * (l .0 + 30000)) ⌝ }
+    requires { ⌜ (a ≤ 14 * lift) × (f ≤ 14 * lift) × (l .0 ≤ 365000) ⌝ }
+    ensures { λ r. ⌜ frac r (480 * (667 * (l .0 + 30000))) ≈f meanLacks a f (l .0) ⌝ }
+    ensures { λ r. ⌜ r ≤ 4300000000 * (667 * (l .0 + 30000)) ⌝ }
 {
     let mm = l.0;
     let w = 667 * (mm + 30000);
-    (whole::less(LIFT + w, a) + whole::less(LIFT + 1334 * (mm + 30000), f)) * w
+    (whole::less(LIFT7 + w, 30000 * a) + whole::less(LIFT7 + 1334 * (mm + 30000), 30000 * f)) * w
 }
 
 // The mean of both halves, rounded down.
 fn mean_of(a: u64, f: u64, l: Span) -> Mean
-    requires { ⌜ (a ≤ 3440430000) × (f ≤ 3440430000) × (l .0 ≤ 365000) ⌝ }
+    requires { ⌜ (a ≤ 14 * lift) × (f ≤ 14 * lift) × (l .0 ≤ 365000) ⌝ }
     ensures { λ r. ⌜ (r .deficiency .0 ≡ deficiency a f (l .0)) × (r .excess .0 ≡ excess a f (l .0)) ⌝ }
     ensures { λ r. ⌜ (r .deficiency .0 ≤ 9000000) × (r .excess .0 ≤ 7200000) ⌝ }
 {
@@ -116,8 +119,8 @@ fn deduct(excess: Freeboard, l: Span, s: Span, reach: u64) -> Freeboard
     Freeboard(whole::lesser(full, 5 * mm / 4))
 }
 
-// 38(8) to (11): the mean. The ordinates are AP, L/6, L/3 from AP, then L/3, L/6 from FP, FP, each lifted by 8192 mm. No house changes it.
-pub fn mean_sheer(l: Span, ordinates: [u64; 6]) -> Mean
+// 38(8) to (11): the mean. The ordinates are AP, L/6, L/3 from AP, then L/3, L/6 from FP, FP. No house changes it.
+pub fn mean_sheer(l: Span, ordinates: [Ordinate; 6]) -> Mean
     requires { ⌜ (l .0 ≤ 365000) × Lifted ordinates ⌝ }
     ensures { λ r. ⌜ (r .deficiency .0 ≡ deficiency (afterSum ordinates) (forwardSum ordinates) (l .0)) × (r .excess .0 ≡ excess (afterSum ordinates) (forwardSum ordinates) (l .0)) ⌝ }
     ensures { λ r. ⌜ (r .deficiency .0 ≤ 9000000) × (r .excess .0 ≤ 7200000) ⌝ }

@@ -1,11 +1,11 @@
 -- Laws of specs/Frac.antt.
 use mathlib.Core.Path.{_≡_, refl, sym, ap₂}
-use mathlib.Core.Bool.{Bool, true, false}
+use mathlib.Core.Bool.{Bool, true, false, _&&_}
 use Prim.Native.Nat.{ℕ, suc, pred, _*_, _-_, _<_}
 use native.Mathlib.Omega.{arith}
 use native.Mathlib.Nat.{mul-pos, mul-le-mul, mul-le-mul-right, mul-lt-mul-of-pos-right, le-of-mul-le-mul-right, lt-of-mul-lt-mul-right, le-max-left, le-max-right, min-le-left, min-le-right}
 use Rattle.whole.specs.Pick.{pick}
-use Rattle.whole.proofs.Pick.{by-cases, same-test}
+use Rattle.whole.proofs.Pick.{same-test}
 use Rattle.whole.proofs.Divide.{sub-mul, max-mul, min-mul}
 use Rattle.whole.specs.Frac.{Frac, _≤f_, _<f_, _≈f_, _≤f?_, _<f?_, whole, frac, _+f_, _*f_, _-f_, _÷f_, maxf, minf}
 
@@ -116,15 +116,12 @@ pub <?-same : {x y z w : Frac} → x ≈f y → z ≈f w → (x <f? z) ≡ (y <f
     (λ t. trans≤< (same (sym≈ h)) (trans<≤ (record { lt = t }) (same k)) .lt)
     (λ t. trans≤< (same h) (trans<≤ (record { lt = t }) (same (sym≈ k))) .lt)
 
--- a choice over one bottom
-pub pick-same : (b : Bool) (d : ℕ) {m n : ℕ} {x y : Frac} → frac m d ≈f x → frac n d ≈f y → frac (pick b m n) d ≈f pick b x y
+-- tests that guard what is zero anyhow can go
+pub untested-frac : (a b : Bool) (x : Frac) → (a ≡ false → x .top ≡ 0) → (b ≡ false → x .top ≡ 0) → x ≈f pick (a && b) x (whole 0)
 unfolding pick
-pick-same true d h k = h
-pick-same false d h k = k
-
--- a test that guards what is zero anyhow can go
-pub untested-frac : (b : Bool) (x : Frac) → (b ≡ false → x .top ≡ 0) → x ≈f pick b x (whole 0)
-untested-frac b x h = by-cases (λ (y : Frac). x ≈f y) b x (whole 0) (λ t. refl≈ x) (λ t. omega (arith, h t))
+untested-frac true true x h k = refl≈ x
+untested-frac true false x h k = omega (arith, k refl)
+untested-frac false b x h k = omega (arith, h refl)
 
 -- ---- a factor or a bottom that a difference has in common
 pub one-bottom : (m n d : ℕ) → 0 < d → frac (m - n) d ≈f frac m d -f frac n d
@@ -145,6 +142,6 @@ spread x y z =
     trans≈ {y = x *f (y -f z)} (omega arith)
     (trans≈ (sym≈ (factor-out x y z)) (sub-same {x = x *f y} {y = y *f x} {z = x *f z} {w = z *f x} (omega arith) (omega arith)))
 
--- a difference of whole numbers over d, times k, where each alone is known
-pub scaled : {x y : Frac} (m n d : ℕ) (k : Frac) → 0 < d → frac m d *f k ≈f x → frac n d *f k ≈f y → frac (m - n) d *f k ≈f x -f y
-scaled m n d k h p q = trans≈ (*-same (one-bottom m n d h) (refl≈ k)) (trans≈ (spread k (frac m d) (frac n d)) (sub-same p q))
+-- k times a difference, as a single quotient, where each alone is one
+pub scaled : (x y : Frac) (m n d : ℕ) (k : Frac) → 0 < d → frac m d ≈f x *f k → frac n d ≈f y *f k → frac (m - n) d ≈f (x -f y) *f k
+scaled x y m n d k h p q = trans≈ (one-bottom m n d h) (trans≈ (sub-same p q) (sym≈ (spread k x y)))

@@ -22,10 +22,6 @@ unfolding pick
 by-cases P true x y h g = h refl
 by-cases P false x y h g = g refl
 
--- where the two agree whenever the test fails, the first is the choice: a test that only guards against what is zero anyhow can go
-pub untested : {A : Type 0} (b : Bool) (x y : A) → (b ≡ false → x ≡ y) → x ≡ pick b x y
-untested {A} b x y h = by-cases (λ (z : A). x ≡ z) b x y (λ t. refl) h
-
 -- two tests that follow from each other are one; for `ltb a b`, which is `leb (suc a) b`, with `suc a` and `suc c`
 pub same-test : (a b c d : ℕ) → (a ≤ b → c ≤ d) → (c ≤ d → a ≤ b) → leb a b ≡ leb c d
 same-test a b c d f g =

@@ -1,14 +1,13 @@
 -- Laws of specs/Round.antt.
-use mathlib.Core.Path.{_≡_, refl}
+use mathlib.Core.Path.{_≡_, refl, sym, ap₂, _∙_}
 use mathlib.Core.Bool.{Bool, true, false}
 use Prim.Native.Nat.{ℕ, suc, _+_, _*_, _-_, _/_, _≤_, _<_, min, max}
 use native.Mathlib.Omega.{arith, max-cases, min-cases}
-use native.Mathlib.Nat.{one-mul, mul-one, div-mul-le-self, lt-div-mul-add, div-lt-iff-lt-mul}
-use lib.Dec.{ltb}
+use native.Mathlib.Nat.{one-mul, mul-one, div-mul-le-self, lt-div-mul-add, div-lt-iff-lt-mul, mul-div-mul-right}
 use Rattle.whole.specs.Pick.{pick}
 use Rattle.whole.proofs.Pick.{same-test}
 use Rattle.whole.specs.Divide.{ceilDiv}
-use Rattle.whole.proofs.Divide.{ceil-ge, ceil-lt}
+use Rattle.whole.proofs.Divide.{ceil-ge, ceil-lt, ceil-most, ceil-cancel, floor-most}
 use Rattle.whole.specs.Frac.{Frac, _≤f_, _≈f_, _<f?_, _+f_, _*f_, _-f_, maxf, minf, whole, frac, ceil, floor}
 use Rattle.whole.proofs.Frac.{refl≤, trans≤, same, sym≈, +-mono≤, *-mono≤, max-least, max-left, max-right, min-left, min-right, min-greatest, sub-mono, sub-add, sub-le}
 use Rattle.whole.specs.Round.{Within, Below}
@@ -87,14 +86,6 @@ smaller {c} {d} {x} {y} {e} n m = record {
       (λ p q. trans≤ {y = whole d} (omega arith) (trans≤ (m .close) (+-mono≤ (min-greatest (record { le = p }) (refl≤ y)) (refl≤ e))));
 }
 
-pub below-smaller : {c d : ℕ} {x y e : Frac} → Below c x e → Below d y e → Below (min c d) (minf x y) e
-below-smaller {c} {d} {x} {y} {e} n m = record {
-  below = min-greatest (trans≤ {y = whole c} (omega arith) (n .below)) (trans≤ {y = whole d} (omega arith) (m .below));
-  close = min-cases c d (minf x y ≤f whole (min c d) +f e)
-      (λ p q. rw q (trans≤ (min-left x y) (n .close)))
-      (λ p q. rw q (trans≤ (min-right x y) (m .close)));
-}
-
 -- ---- products
 pub mult : {c d : ℕ} {x y e f : Frac} → Within c x e → Within d y f → Within (c * d) (x *f y) (e *f (y +f f) +f x *f f)
 mult {c} {d} {x} {y} {e} {f} n m = record {
@@ -135,39 +126,100 @@ up a (suc d) h = by-ceil (frac a (suc d))
 pub down : (a d : ℕ) → 0 < d → Below (a / d) (frac a d) (whole 1)
 down a (suc d) h = by-floor (frac a (suc d))
 
--- a fraction that is itself off by at most s
-ceil-over : {x y : Frac} (s : Frac) → y ≤f x → x ≤f y +f s → Within (ceil x) y (s +f whole 1)
-ceil-over {x} {y} s h k = record {
-  above = trans≤ h (by-ceil x .above);
-  close = trans≤ (by-ceil x .close) (trans≤ (+-mono≤ k (refl≤ (whole 1))) (omega arith));
+-- a rule is the whole number next to its exact value x; code computes the quotient m / d, which has that value
+pub ceil-of : (m d : ℕ) {x : Frac} → 0 < d → frac m d ≈f x → ceilDiv m d ≡ ceil x
+ceil-of m (suc d) {x} h e =
+    sym (ceil-cancel m (suc d) (x .bot) h (x .pos)) ∙ ap₂ ceilDiv (e .eq) (omega arith) ∙ ceil-cancel (x .top) (x .bot) (suc d) (x .pos) h
+
+pub floor-of : (m d : ℕ) {x : Frac} → 0 < d → frac m d ≈f x → m / d ≡ floor x
+floor-of m (suc d) {x} h e =
+    sym (mul-div-mul-right m (suc d) (x .pos)) ∙ ap₂ _/_ (e .eq) (omega arith) ∙ mul-div-mul-right (x .top) (x .bot) h
+
+pub ceil-whole : (n : ℕ) → ceil (whole n) ≡ n
+ceil-whole n = omega (arith, ceil-ge n 1 (omega arith), ceil-lt n 1 (omega arith))
+
+pub ceil-under : {x : Frac} (q : ℕ) → x ≤f whole q → ceil x ≤ q
+ceil-under {x} q h = ceil-most (x .top) (x .bot) q (x .pos) (omega arith)
+
+pub floor-under : {x : Frac} (q : ℕ) → x ≤f whole q → floor x ≤ q
+floor-under {x} q h = floor-most (x .top) (x .bot) q (omega arith)
+
+pub ceil-zero : (x : Frac) → x .top ≡ 0 → ceil x ≡ 0
+ceil-zero x e = omega (arith, ceil-under {x = x} 0 (omega arith))
+
+pub floor-zero : (x : Frac) → x .top ≡ 0 → floor x ≡ 0
+floor-zero x e = omega (arith, floor-under {x = x} 0 (omega arith))
+
+-- a factor in millionths
+pub in-millionths : (x y : Frac) → x *f (y *f whole 1000000) *f frac 1 1000000 ≈f x *f y
+in-millionths x y = omega arith
+
+-- ---- two exact values, the second at most s above the first, and the same of what is made of them
+pub record Near (x y s : Frac) : Type 0 where
+  pub low : x ≤f y
+  pub high : y ≤f x +f s
+
+pub near-below : {c : ℕ} {x s : Frac} → Below c x s → Near (whole c) x s
+near-below w = record { low = w .below; high = w .close }
+
+pub near-above : {c : ℕ} {x s : Frac} → Within c x s → Near x (whole c) s
+near-above w = record { low = w .above; high = w .close }
+
+pub near-as : {x y z w s : Frac} → x ≈f z → y ≈f w → Near x y s → Near z w s
+near-as {s = s} h k n = record {
+  low = trans≤ (same (sym≈ h)) (trans≤ (n .low) (same k));
+  high = trans≤ (same (sym≈ k)) (trans≤ (n .high) (+-mono≤ (same h) (refl≤ s)));
 }
 
-pub floor-short : {x y : Frac} (s : Frac) → x ≤f y → y ≤f x +f s → Below (floor x) y (s +f whole 1)
-floor-short {x} {y} s h k = record {
-  below = trans≤ (by-floor x .below) h;
-  close = trans≤ k (trans≤ (+-mono≤ (by-floor x .close) (refl≤ s)) (omega arith));
+pub near-loosen : {x y s t : Frac} → s ≤f t → Near x y s → Near x y t
+near-loosen {x} h n = record { low = n .low; high = trans≤ (n .high) (+-mono≤ (refl≤ x) h) }
+
+pub near-times : {x y s : Frac} (k : Frac) → Near x y s → Near (x *f k) (y *f k) (s *f k)
+near-times k n = record { low = *-mono≤ (n .low) (refl≤ k); high = trans≤ (*-mono≤ (n .high) (refl≤ k)) (omega arith) }
+
+pub near-pick : (b : Bool) {x y z w s : Frac} → Near x y s → Near z w s → Near (pick b x z) (pick b y w) s
+unfolding pick
+near-pick true n m = n
+near-pick false n m = m
+
+-- the greater subtrahend leaves less
+pub near-less : {y z s : Frac} (x : Frac) → Near y z s → Near (x -f z) (x -f y) s
+near-less {y} {z} {s} x n = record {
+  low = sub-mono (refl≤ x) (n .low);
+  high = sub-le x y ((x -f z) +f s) (trans≤ (sub-add x z) (trans≤ (+-mono≤ (refl≤ (x -f z)) (n .high)) (omega arith)));
+}
+
+pub near-min : {x y s : Frac} (z : Frac) → Near x y s → Near (minf x z) (minf y z) s
+near-min {x} {y} {s} z n = record {
+  low = min-greatest (trans≤ (min-left x z) (n .low)) (min-right x z);
+  high = min-cases (x .top * z .bot) (z .top * x .bot) (minf y z ≤f minf x z +f s)
+      (λ p q. trans≤ (min-left y z) (trans≤ (n .high) (+-mono≤ (min-greatest (refl≤ x) (record { le = p })) (refl≤ s))))
+      (λ p q. trans≤ (min-right y z) (trans≤ (min-greatest {x = x} {y = z} {z = z} (record { le = p }) (refl≤ z)) (omega arith)));
+}
+
+-- and rounded
+pub near-ceil : {x y s : Frac} → Near x y s → Within (ceil y) x (s +f whole 1)
+near-ceil {x} {y} {s} n = record {
+  above = trans≤ (n .low) (by-ceil y .above);
+  close = trans≤ (by-ceil y .close) (trans≤ (+-mono≤ (n .high) (refl≤ (whole 1))) (omega arith));
+}
+
+pub near-floor : {x y s : Frac} → Near x y s → Below (floor x) y (s +f whole 1)
+near-floor {x} {y} {s} n = record {
+  below = trans≤ (by-floor x .below) (n .low);
+  close = trans≤ (n .high) (trans≤ (+-mono≤ (by-floor x .close) (refl≤ s)) (omega arith));
 }
 
 -- times n over d, which is at most b
 pub times-up : {c : ℕ} {x e b : Frac} (n d : ℕ) → 0 < d → frac n d ≤f b → Within c x e
     → Within (ceilDiv (c * n) d) (x *f frac n d) (e *f b +f whole 1)
-times-up {c} {x} {e} {b} n (suc d) p h w =
-    let g : Frac = frac n (suc d) in
-    let t : Within (ceil (whole c *f g)) (x *f g) (e *f b +f whole 1) =
-    ceil-over (e *f b) (*-mono≤ (w .above) (refl≤ g))
-    (trans≤ (*-mono≤ (w .close) (refl≤ g))
-    (trans≤ {y = x *f g +f e *f g} (omega arith) (+-mono≤ (refl≤ (x *f g)) (*-mono≤ (refl≤ e) h)))) in
-    rw (one-mul (suc d)) at t
+times-up {e = e} n (suc d) p h w =
+    rw (one-mul (suc d)) at (near-ceil (near-loosen (*-mono≤ (refl≤ e) h) (near-times (frac n (suc d)) (near-above w))))
 
 pub times-down : {c : ℕ} {x e b : Frac} (n d : ℕ) → 0 < d → frac n d ≤f b → Below c x e
     → Below (c * n / d) (x *f frac n d) (e *f b +f whole 1)
-times-down {c} {x} {e} {b} n (suc d) p h w =
-    let g : Frac = frac n (suc d) in
-    let t : Below (floor (whole c *f g)) (x *f g) (e *f b +f whole 1) =
-    floor-short (e *f b) (*-mono≤ (w .below) (refl≤ g))
-    (trans≤ (*-mono≤ (w .close) (refl≤ g))
-    (trans≤ {y = whole c *f g +f e *f g} (omega arith) (+-mono≤ (refl≤ (whole c *f g)) (*-mono≤ (refl≤ e) h)))) in
-    rw (one-mul (suc d)) at t
+times-down {e = e} n (suc d) p h w =
+    rw (one-mul (suc d)) at (near-floor (near-loosen (*-mono≤ (refl≤ e) h) (near-times (frac n (suc d)) (near-below w))))
 
 -- over d
 pub over-up : {c : ℕ} {x e : Frac} (d : ℕ) → 0 < d → Within c x e → Within (ceilDiv c d) (x *f frac 1 d) (e *f frac 1 d +f whole 1)
@@ -187,16 +239,9 @@ unfolding pick
 below-pick true h g = h refl
 below-pick false h g = g refl
 
--- the same where the exact side has the choice inside a formula f
-pub within-pick-in : (f : Frac → Frac) (b : Bool) (x y : Frac) {c d : ℕ} {e : Frac} → (b ≡ true → Within c (f x) e)
-    → (b ≡ false → Within d (f y) e) → Within (pick b c d) (f (pick b x y)) e
-unfolding pick
-within-pick-in f true x y h g = h refl
-within-pick-in f false x y h g = g refl
-
--- a test on what was rounded down says the same as the test on the exact value, where its limit is whole
-pub floor-test : (a d n : ℕ) → 0 < d → ltb (a / d) n ≡ (frac a d <f? whole n)
-floor-test a (suc d) n p =
-    same-test (suc (a / suc d)) n (suc (a * 1)) (n * suc d)
-    (λ h. omega (arith, div-lt-iff-lt-mul {x = a} {y = n} p .0 h))
-    (λ h. div-lt-iff-lt-mul {x = a} {y = n} p .1 (omega arith))
+-- a test with a whole limit says the same of a value and of what it is rounded down
+pub floor-test : (x : Frac) (n : ℕ) → (whole (floor x) <f? whole n) ≡ (x <f? whole n)
+floor-test x n =
+    same-test (suc (floor x * 1)) (n * 1) (suc (x .top * 1)) (n * x .bot)
+    (λ h. omega (arith, div-lt-iff-lt-mul {x = x .top} {y = n} (x .pos) .0 (omega arith)))
+    (λ h. omega (arith, div-lt-iff-lt-mul {x = x .top} {y = n} (x .pos) .1 (omega arith)))

@@ -4,13 +4,11 @@ use mathlib.Core.List.{List, [], _∷_}
 use Prim.Native.Nat.{ℕ, zero, suc, zero-le, _+_, _*_, _-_, _/_, _≤_, _<_, min}
 use native.Mathlib.Omega.{arith}
 use native.Mathlib.Numerals.{add-one}
-use native.Mathlib.Nat.{mul-le-mul-left, mul-le-mul-right, mul-comm, mul-one, zero-sub, min-zero, div-mul-le-self, lt-div-mul-add, not-suc-le-zero, le-of-suc-le-suc, le-trans}
+use native.Mathlib.Nat.{mul-le-mul-left, mul-le-mul-right, mul-comm, zero-sub, min-zero, min-eq-right, div-mul-le-self, lt-div-mul-add, not-suc-le-zero, le-of-suc-le-suc, le-trans}
 use lib.ListN.{length, getD}
 use Rattle.whole.proofs.Divide.{min-mul, sub-mul}
-use Rattle.whole.specs.Frac.{Frac, _≤f_, _≈f_, _+f_, _*f_, _-f_, whole, frac, floor}
-use Rattle.whole.proofs.Frac.{refl≤, trans≤, *-mono≤}
-use Rattle.whole.specs.Round.{Below}
-use Rattle.whole.proofs.Round.{floor-short}
+use Rattle.whole.specs.Frac.{Frac, _≤f_, _≈f_, _+f_, _*f_, _-f_, whole}
+use Rattle.whole.proofs.Round.{Near}
 use Rattle.whole.specs.Row.{Rises, Rising, gain, height, heightIn, along}
 
 -- ---- the four laws of the gain, each by induction over the segments
@@ -85,6 +83,11 @@ height-by r n t d p h l =
     (omega (arith, div-mul-le-self t d, min-mul (t / d) n d))
     (omega (arith, lt-div-mul-add {a = t} p, min-mul (t / d) n d))
 
+-- of a row of two, within its one segment
+pub height-of-two : (p q t d : ℕ) → t ≤ d → height (p ∷ q ∷ []) t d ≡ p * d + (q - p) * t
+unfolding height gain
+height-of-two p q t d h = rw (min-eq-right {n = t} {m = d} h) (omega arith)
+
 pub height-mono : (row : List ℕ) (t d u c : ℕ) → t * c ≤ u * d → height row t d * c ≤ height row u c * d
 unfolding height
 height-mono [] t d u c h = omega arith
@@ -148,14 +151,5 @@ along-in {row = row} r j x h k l =
     let f : x .top * 1 - j * x .bot ≡ x .top - j * x .bot = omega arith in
     rw (e, f) (omega arith)
 
--- k times a row's value at a place that is rounded down, itself rounded down
-pub row-down : {m M : ℕ} {row : List ℕ} {c : ℕ} {x e : Frac} → Rising m M row → (k u : ℕ) → 0 < u → Below c x e
-    → Below (height row c u * k / u) (along row (x *f frac 1 u) *f whole k) (whole m *f (e *f frac 1 u) *f whole k +f whole 1)
-row-down {m} {M} {row} {c} {x} {e} r k (suc u) p w =
-    let g : Frac = frac 1 (suc u) in
-    let a : frac c (suc u) ≤f x *f g = trans≤ {y = whole c *f g} (omega arith) (*-mono≤ (w .below) (refl≤ g)) in
-    let b : x *f g ≤f frac c (suc u) +f e *f g = trans≤ (*-mono≤ (w .close) (refl≤ g)) (omega arith) in
-    let t : Below (floor (along row (frac c (suc u)) *f whole k)) (along row (x *f g) *f whole k) (whole m *f (e *f g) *f whole k +f whole 1) =
-    floor-short (whole m *f (e *f g) *f whole k) (*-mono≤ (along-mono row a) (refl≤ (whole k)))
-    (trans≤ (*-mono≤ (along-steep r (frac c (suc u)) (x *f g) (e *f g) b) (refl≤ (whole k))) (omega arith)) in
-    rw (mul-one (suc u)) at t
+pub near-along : {m M : ℕ} {row : List ℕ} {x y s : Frac} → Rising m M row → Near x y s → Near (along row x) (along row y) (whole m *f s)
+near-along {row = row} {x} {y} {s} r n = record { low = along-mono row (n .low); high = along-steep r x y s (n .high) }

@@ -4,10 +4,10 @@ use Prim.Native.Nat.{ℕ, _+_, _*_, _-_, _/_, _≤_, _<_}
 use mathlib.Core.Path.{_≡_}
 use native.Mathlib.Omega.{arith}
 use native.Mathlib.Decide.{decLt}
-use native.Mathlib.Nat.{mul-le-mul-right, div-mul-le-self, lt-div-mul-add}
+use native.Mathlib.Nat.{mul-pos, mul-comm, mul-le-mul-right, div-mul-le-self, lt-div-mul-add}
 use Rattle.whole.specs.Divide.{ceilDiv}
 use Rattle.whole.proofs.Divide.{ceil-ge, ceil-lt, ceil-nought, sub-mul, max-mul}
-use Rattle.whole.specs.Frac.{Frac, _≤f_, _≈f_, _+f_, _-f_, maxf}
+use Rattle.whole.specs.Frac.{Frac, _≤f_, _<f_, _≈f_, _+f_, _-f_, maxf, whole, ceil, floor}
 use Rattle.whole.proofs.Frac.{refl≤, trans≤, +-mono≤, both≤, max-left, max-right, max-least, sub-add}
 
 -- The signed p - q over d, rounded down, has the part (p - q) / d above zero and the part ceilDiv (q - p) d below it:
@@ -19,6 +19,13 @@ signed-floor p q d h =
       | yes t ↦ omega (arith, ceil-ge (q - p) d h, ceil-lt (q - p) d h, div-mul-le-self (p - q) d)
       | no t ↦ (let e : q - p ≡ 0 = omega arith in rw (e, ceil-nought d h) (omega (arith, div-mul-le-self (p - q) d, lt-div-mul-add {a = p - q} h)))
     ]
+
+-- the same of fractions: the signed x - y, rounded down
+pub signed-down : (x y : Frac)
+    → (whole (floor (x -f y)) +f y ≤f x +f whole (ceil (y -f x))) × (x +f whole (ceil (y -f x)) <f whole (floor (x -f y)) +f y +f whole 1)
+signed-down x y =
+    let t = signed-floor (x .top * y .bot) (y .top * x .bot) (x .bot * y .bot) (mul-pos (x .pos) (y .pos)) in
+    rw (mul-comm (y .bot) (x .bot)) (omega (arith, t .0), omega (arith, t .1))
 
 -- the greater of two, with t more
 max-under : (x y t m : Frac) → x +f t ≤f m → y +f t ≤f m → maxf x y +f t ≤f m

@@ -1,11 +1,10 @@
-use mathlib.Core.Path.{refl}
 use native.Mathlib.Nat.{lt-of-le-of-lt}
 use native.Mathlib.Omega.{arith}
 use lib.Dec.{lit<}
 use borrow.Author.Needs.{needs}
 use Rattle.whole.proofs.Divide.{mul-most, two-products}
-use Rattle.bow.specs.Bow.{cubic}
-use Rattle.bow.proofs.Cubic.{cubic-most}
+use Rattle.bow.proofs.Cubic.{cubic, cubic-most}
+use Rattle.bow.proofs.Words.{b1-words}
 use Rattle.bow.proofs.cubic_of.Statement.{statement}
 use Rattle.bow.proofs.cubic_of.Tie as tie
 
@@ -19,4 +18,4 @@ cubic-of-spec =
     (λ c. search needs)
     (λ c. omega (arith, two-products (c .args .l .0) 468750))
     (λ c. record { fits = lt-of-le-of-lt (cubic-most (c .args .l .0) (omega arith)) (lit< tt) })
-    (λ c. (refl, cubic-most (c .args .l .0) (omega arith))))
+    (λ c. (b1-words (c .args .l .0), cubic-most (c .args .l .0) (omega arith))))

@@ -1,8 +1,12 @@
+use mathlib.Core.Path.{_≡_, _∙_}
 use Prim.Native.Nat.{_*_, _≤_, _^_}
 use native.Mathlib.Omega.{arith}
 use borrow.Author.Needs.{needs}
 use Rattle.whole.proofs.Divide.{ceil-most, mul-most, room}
-use Rattle.bow.specs.Bow.{higher, b1Up, b2Above}
+use Rattle.whole.specs.Frac.{whole, _*f_, _-f_}
+use Rattle.whole.proofs.Frac.{scaled}
+use Rattle.whole.proofs.Round.{ceil-of}
+use Rattle.bow.specs.Bow.{exactB1, exactRises, exactFalls, higher, b1Up, b2Above}
 use Rattle.bow.proofs.up.Statement.{statement}
 use Rattle.bow.proofs.up.Tie as tie
 
@@ -29,8 +33,16 @@ up-spec =
     (λ c. search needs)
     (λ c κs. search needs)
     (λ c κs. (omega arith, room 6920000 2689000 1000000 (first c) (second c) (omega arith) tt))
-    (λ c. let e = c .before in
-    let r = e .before .before in (
-      rw (c .mul-div-up .ensures, e .div-up2 .ensures, e .before .less .ensures, r .fall .ensures .0, r .before .rise .ensures .0, r .before .before .div-up .ensures, r .before .before .before .cubic-of .ensures .0),
-      rw (c .mul-div-up .ensures) (ceil-most _ 1000000 (2 ^ 48) (omega arith) (omega (arith, mul-most (r .before .before .div-up .result) (e .div-up2 .result) 6920000 2689000 (first e) (second e)))),
+    (λ c.
+    let e = c .before in
+    let r = e .before .before in
+    let q = r .before .before in
+    let a = q .before .before .args in
+    let b1 : q .div-up .result ≡ b1Up (a .l .0) = q .div-up .ensures ∙ ceil-of _ 5000000000 {x = exactB1 (a .l .0)} (omega arith) (q .before .cubic-of .ensures .0) in
+    let b2 : e .div-up2 .result ≡ b2Above (a .l .0) (a .m .0) (a .cb) (a .cwf) =
+    e .div-up2 .ensures ∙ rw (e .before .less .ensures)
+    (ceil-of _ (170 * a .m .0) {x = (exactRises (a .cb) -f exactFalls (a .l .0) (a .m .0) (a .cwf)) *f whole 1000000} (omega arith)
+    (scaled (exactRises (a .cb)) (exactFalls (a .l .0) (a .m .0) (a .cwf)) _ _ (170 * a .m .0) (whole 1000000) (omega arith) (r .before .rise .ensures .0) (r .fall .ensures .0))) in (
+      rw (c .mul-div-up .ensures, b1, b2),
+      rw (c .mul-div-up .ensures) (ceil-most _ 1000000 (2 ^ 48) (omega arith) (omega (arith, mul-most (q .div-up .result) (e .div-up2 .result) 6920000 2689000 (first e) (second e)))),
     )))

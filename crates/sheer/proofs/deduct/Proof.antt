@@ -2,12 +2,11 @@ use Prim.Native.Nat.{_*_, _-_}
 use native.Mathlib.Omega.{arith}
 use borrow.Author.Needs.{needs}
 use Rattle.whole.proofs.Divide.{mul-most, mul-fits}
-use Rattle.sheer.specs.Sheer.{deduction}
+use Rattle.sheer.proofs.Rounded.{deduction-quotient}
 use Rattle.sheer.proofs.deduct.Statement.{statement}
 use Rattle.sheer.proofs.deduct.Tie as tie
 
 pub deduct-spec : {M : Type 1} → statement M
-unfolding deduction
 deduct-spec =
     tie.close
     (tie.spec
@@ -23,4 +22,5 @@ deduct-spec =
     ))
     (λ c. search needs)
     (λ c κs. search needs)
-    (λ c. (rw (c .lesser .ensures, c .before .mul-div-down .ensures), omega arith)))
+    (λ c. let a = c .before .before .before .args in
+    (rw (c .lesser .ensures, c .before .mul-div-down .ensures) (deduction-quotient (a .excess .0) (a .l .0) (a .s .0) (a .reach) (omega arith)), omega arith)))

@@ -1,10 +1,10 @@
 use borrow.Author.Needs.{needs}
-use Rattle.sheer.specs.Sheer.{afterSum, forwardSum, afterMm, forwardMm}
+use Rattle.sheer.specs.Sheer.{afterSum, forwardSum}
 use Rattle.sheer.proofs.mean_sheer.Statement.{statement}
 use Rattle.sheer.proofs.mean_sheer.Tie as tie
 
 pub mean-sheer-spec : {M : Type 1} → statement M
-unfolding afterSum forwardSum afterMm forwardMm
+unfolding afterSum forwardSum
 mean-sheer-spec =
     tie.close
     (tie.spec

@@ -13,5 +13,7 @@ with-short-spec =
     (tie.spec
     (λ c. (simp (not-true (c .before .args .b) (c .if1 .taken)) (omega arith), omega arith))
     (λ c κs. search needs)
-    (λ c. search needs)
-    (λ c. (simp (not-false (c .before .before .args .b) (c .before .if1 .left), c .addition .ensures .0), omega (arith, c .addition .ensures .1))))
+    (λ c κs. search needs)
+    (λ c.
+    let a = c .before in
+    (simp (not-false (a .before .before .args .b) (a .before .if1 .left), c .sum .ensures, a .addition .ensures .0), omega (arith, a .addition .ensures .1))))

@@ -1,11 +1,11 @@
 -- The tenth holds E, so that nothing is below zero and the products stay small.
-use mathlib.Core.Path.{_≡_}
+use mathlib.Core.Path.{_≡_, _∙_}
 use Prim.Native.Nat.{_*_, _-_, _≤_}
 use borrow.Author.Needs.{needs}
 use native.Mathlib.Omega.{arith}
 use Rattle.whole.proofs.Divide.{mul-most}
 use Rattle.corrections.specs.Deduction37.{shareFrom}
-use Rattle.corrections.proofs.Deduction37.{tenth-begins, share-from-most}
+use Rattle.corrections.proofs.Deduction37.{tenth-begins, share-of-two, share-from-most}
 use Rattle.corrections.proofs.deduction.share.Statement.{statement}
 use Rattle.corrections.proofs.deduction.share.Tie as tie
 
@@ -22,7 +22,6 @@ second c =
     (omega arith) (omega arith)
 
 pub share-spec : {M : Type 1} → statement M
-unfolding shareFrom
 share-spec =
     tie.close
     (tie.spec
@@ -38,5 +37,5 @@ share-spec =
     (λ c.
     let a = c .before .before .args in
     let e : c .mul-div-down .result ≡ shareFrom (a .p) (a .q) (a .length .0) (a .effective .0) =
-    rw (c .before .tenth-of .ensures .0) at (c .mul-div-down .ensures) in
-    (e, rw e (share-from-most (a .p) (a .q) (a .length .0) (a .effective .0) (omega arith) (omega arith) (omega arith) (omega arith)))))
+    rw (c .before .tenth-of .ensures .0) at (c .mul-div-down .ensures) ∙ share-of-two (a .p) (a .q) (a .length .0) (a .effective .0) (omega arith) (omega arith) in
+    (e, rw e (share-from-most (a .p) (a .q) (a .length .0) (a .effective .0) (omega arith) (omega arith)))))

@@ -3,7 +3,7 @@ use mathlib.Core.Bool.{Bool}
 use mathlib.Core.List.{List}
 use Prim.Native.Nat.{ℕ, _≤_}
 use native.Mathlib.Omega.{arith}
-use Rattle.whole.specs.Frac.{Frac, whole, frac}
+use Rattle.whole.specs.Frac.{Frac, _+f_, _*f_, whole, frac}
 use Rattle.whole.specs.Round.{Within, Below}
 use Rattle.whole.specs.Row.{Rising}
 use Rattle.whole.proofs.Round.{exactly, exactly-below, sum, loosen, loosen-below, within-pick, below-pick}
@@ -14,13 +14,13 @@ use Rattle.corrections.proofs.Fullness30.{fullness-within}
 use Rattle.corrections.proofs.Depth31.{depth-within}
 use Rattle.corrections.proofs.Deduction37.{deduction-below}
 
--- 1.2 um of 29, grown by 30, and 1 um each of 30 and 31
-pub added-within : (table : ℕ) (typeB : Bool) (l d cb e : ℕ) (x : Frac) → 24000 ≤ l → cb ≤ 12000 → Below e x (whole 8)
-    → Within (added table typeB l d cb e) (exactAdded table typeB l d cb x) (frac 37 10)
+-- what the table's line is rounded by and 1.2 um of 29, grown by 30, and 1 um each of 30 and 31
+pub added-within : {table : ℕ} {t s : Frac} → Within table t s → (typeB : Bool) (l d cb e : ℕ) (x : Frac) → 24000 ≤ l → cb ≤ 12000 → Below e x (whole 8)
+    → Within (added table typeB l d cb e) (exactAdded t typeB l d cb x) ((s +f frac 6 5) *f frac 47 34 +f whole 2)
 unfolding added exactAdded
-added-within table typeB l d cb e x h k w =
+added-within v typeB l d cb e x h k w =
     loosen (omega arith)
-    (sum (fullness-within cb k (sum (exactly table) (within-pick typeB (λ t. short-within l e x h w) (λ t. loosen (omega arith) (exactly 0)))))
+    (sum (fullness-within cb k (sum v (within-pick typeB (λ t. short-within l e x h w) (λ t. loosen (omega arith) (exactly 0)))))
     (depth-within l d))
 
 -- f is the forecastle's effective length

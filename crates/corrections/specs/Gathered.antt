@@ -14,8 +14,8 @@ use Rattle.corrections.specs.Deduction37.{deduction, exactDeduction, lac
 unfoldable pub added : ℕ → Bool → ℕ → ℕ → ℕ → ℕ → ℕ
 added table typeB l d cb e = fullness cb (table + pick typeB (shortB l e) 0) + depthAddition l d
 
-unfoldable pub exactAdded : ℕ → Bool → ℕ → ℕ → ℕ → Frac → Frac
-exactAdded table typeB l d cb e = exactFullness cb (whole table +f pick typeB (exactShortB l e) (whole 0)) +f exactDepthAddition l d
+unfoldable pub exactAdded : Frac → Bool → ℕ → ℕ → ℕ → Frac → Frac
+exactAdded table typeB l d cb e = exactFullness cb (table +f pick typeB (exactShortB l e) (whole 0)) +f exactDepthAddition l d
 
 -- 37, by a row of percentages; f is the forecastle's effective length
 unfoldable pub deducted : Bool → List ℕ → Frac → ℕ → ℕ → ℕ

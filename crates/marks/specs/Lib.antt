@@ -1,4 +1,5 @@
+pub mod Basis
 pub mod Steps
+pub mod Exact
 pub mod Parts
 pub mod Marks
-pub mod Exact

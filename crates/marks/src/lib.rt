@@ -1,22 +1,36 @@
 // The six marks of a ship, or of any bytes as a ship record: refusals 1 to 13 in the table's order.
 ghost use mathlib.Core.Path.{_≡_};
 ghost use Rattle.record.specs.Layout.{shipIn};
+ghost use Rattle.mark.specs.Others.{sheet};
 ghost use Rattle.marks.specs.Steps.{Sound};
-ghost use Rattle.marks.specs.Marks.{sheet, sheetFor, sheetIn};
 ghost use Rattle.marks.specs.Exact.{Bounded};
-use mark::Marks;
-use mark::Outcome;
+ghost use Rattle.marks.specs.Parts.{hullOf};
+ghost use Rattle.marks.specs.Marks.{particularsOf, sheetFor, sheetIn};
+use crate::hull::Hull;
+use mark::Answer;
+use mark::Particulars;
 use record::reader;
 use ship::Ship;
-use ship::refusal::Refusal;
 use ship::refusal::Verdict;
 
+pub mod hull;
 pub mod steps;
 
-// The marks, or what is refused.
-pub enum Answer {
-    Given(Marks),
-    Refused(Refusal),
+// What the other marks need of a ship, of which the floor is its hull's.
+pub fn particulars_of(x: Ship, h: Hull) -> Particulars
+    requires { ⌜ h ≡ hullOf x ⌝ }
+    ensures { λ r. ⌜ r ≡ particularsOf x ⌝ }
+{
+    let basis = h.basis;
+    let depth = x.depth;
+    let length = x.length;
+    Particulars {
+        floor: basis.floor,
+        depth,
+        length,
+        displacement: x.displacement,
+        immersion: x.immersion,
+    }
 }
 
 // The marks of a ship that the reader accepts, or refusal 12 or 13.
@@ -25,15 +39,11 @@ pub fn of_ship(x: Ship) -> Answer
     ensures equation { λ r. ⌜ sheet r ≡ sheetFor x ⌝ }
     ensures bounded { λ r. ⌜ Bounded r x ⌝ }
 {
-    let s = steps::summer(x);
-    let depth = x.depth;
-    let l = x.length;
-    let o = mark::follow(50, depth, s, l, x.displacement, x.immersion);
-    match o {
-        Outcome::Given(m) => Answer::Given(m),
-        Outcome::NoDraught => Answer::Refused(Refusal::NoDraught),
-        Outcome::FreshAllowance => Answer::Refused(Refusal::FreshAllowance),
-    }
+    let hs = x.houses;
+    let h = hull::hull_of(x);
+    let d = deck::deck_of(x.length, hs, x.n);
+    let s = steps::summer_on(h, d);
+    mark::follow(particulars_of(x, h), s)
 }
 
 // The marks of any bytes.

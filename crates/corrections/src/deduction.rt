@@ -20,10 +20,16 @@ pub fn full_amount(length: Span) -> Freeboard
 {
     let l = length.0;
     if l < 85000 {
-        return sum(freeboard_of_mm(350), Freeboard(mul_div_down(l - 24000, 510, 61)));
+        return sum(
+            freeboard_of_mm(350),
+            Freeboard(mul_div_down(l - 24000, 510, 61)),
+        );
     }
     if l < 122000 {
-        return sum(freeboard_of_mm(860), Freeboard(mul_div_down(l - 85000, 210, 37)));
+        return sum(
+            freeboard_of_mm(860),
+            Freeboard(mul_div_down(l - 85000, 210, 37)),
+        );
     }
     freeboard_of_mm(1070)
 }

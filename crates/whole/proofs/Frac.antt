@@ -97,6 +97,12 @@ pub *-same : {x y z w : Frac} → x ≈f y → z ≈f w → x *f z ≈f y *f w
 pub sub-same : {x y z w : Frac} → x ≈f y → z ≈f w → x -f z ≈f y -f w
 sub-same h k = both≤ (sub-mono (same h) (same (sym≈ k))) (sub-mono (same (sym≈ h)) (same k))
 
+pub min-same : {x y z w : Frac} → x ≈f y → z ≈f w → minf x z ≈f minf y w
+min-same {x} {y} {z} {w} h k =
+    both≤
+    (min-greatest (trans≤ (min-left x z) (same h)) (trans≤ (min-right x z) (same k)))
+    (min-greatest (trans≤ (min-left y w) (same (sym≈ h))) (trans≤ (min-right y w) (same (sym≈ k))))
+
 pub ÷-same : {x y z w : Frac} → 0 < z .top → 0 < w .top → x ≈f y → z ≈f w → x ÷f z ≈f y ÷f w
 ÷-same {x} {y} {z} {w} h k p q =
     record {

@@ -3,7 +3,7 @@ use mathlib.Core.Path.{_≡_, refl, sym, ap₂, _∙_}
 use mathlib.Core.Bool.{Bool, true, false}
 use Prim.Native.Nat.{ℕ, suc, _+_, _*_, _-_, _/_, _≤_, _<_, min, max}
 use native.Mathlib.Omega.{arith, max-cases, min-cases}
-use native.Mathlib.Nat.{one-mul, mul-one, div-mul-le-self, lt-div-mul-add, div-lt-iff-lt-mul, mul-div-mul-right}
+use native.Mathlib.Nat.{one-mul, mul-one, mul-comm, mul-le-mul-right, mul-lt-mul-of-pos-right, lt-of-mul-lt-mul-right, min-eq-left, min-eq-right, div-mul-le-self, lt-div-mul-add, div-lt-iff-lt-mul, mul-div-mul-right}
 use Rattle.whole.specs.Pick.{pick}
 use Rattle.whole.proofs.Pick.{same-test}
 use Rattle.whole.specs.Divide.{ceilDiv}
@@ -149,6 +149,24 @@ ceil-zero x e = omega (arith, ceil-under {x = x} 0 (omega arith))
 
 pub floor-zero : (x : Frac) → x .top ≡ 0 → floor x ≡ 0
 floor-zero x e = omega (arith, floor-under {x = x} 0 (omega arith))
+
+pub floor-mono : (x y : Frac) → x ≤f y → floor x ≤ floor y
+floor-mono x y h =
+    let t : x .top / x .bot < y .top / y .bot + 1 =
+    lt-of-mul-lt-mul-right (x .bot * y .bot)
+    (omega (
+      arith,
+      mul-le-mul-right (y .bot) (div-mul-le-self (x .top) (x .bot)),
+      mul-lt-mul-of-pos-right (lt-div-mul-add {a = y .top} (y .pos)) (x .pos),
+    )) in
+    omega arith
+
+-- the lesser of two, rounded down, is the lesser of the two rounded down
+pub floor-lesser : (x y : Frac) → min (floor x) (floor y) ≡ floor (minf x y)
+floor-lesser x y =
+    min-cases (x .top * y .bot) (y .top * x .bot) (min (floor x) (floor y) ≡ floor (minf x y))
+    (λ p q. rw q (min-eq-left (floor-mono x y (record { le = p })) ∙ sym (mul-div-mul-right (x .top) (x .bot) (y .pos))))
+    (λ p q. rw (q, mul-comm (x .bot) (y .bot)) (min-eq-right (floor-mono y x (record { le = p })) ∙ sym (mul-div-mul-right (y .top) (y .bot) (x .pos))))
 
 -- a factor in millionths
 pub in-millionths : (x y : Frac) → x *f (y *f whole 1000000) *f frac 1 1000000 ≈f x *f y

@@ -17,10 +17,11 @@ mean-sheer-spec =
     (λ c. search needs)
     (λ c κs. search needs)
     (λ c κs. search needs)
-    (λ c. let m = c .mean-of .ensures in (
+    (λ c. let m = c .mean-of .ensures in
+    let h = c .before .before .before .before .before in (
       (
-        rw (m .0 .0, c .before .half2 .ensures .0, c .before .before .half .ensures .0),
-        rw (m .0 .1, c .before .half2 .ensures .0, c .before .before .half .ensures .0),
+        rw (m .0 .0, c .before .half2 .ensures .0, h .half .ensures .0),
+        rw (m .0 .1, c .before .half2 .ensures .0, h .half .ensures .0),
       ),
       m .1,
     )))

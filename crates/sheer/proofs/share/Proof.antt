@@ -1,6 +1,8 @@
+use Prim.Native.Nat.{_+_, _*_}
 use native.Mathlib.Omega.{arith}
 use borrow.Author.Needs.{needs}
-use Rattle.sheer.proofs.Words.{share-whole, share-none, share-linear}
+use Rattle.sheer.specs.Sheer.{standardAfter}
+use Rattle.sheer.proofs.Words.{share-same, after-same, standard-pos}
 use Rattle.sheer.proofs.share.Statement.{statement}
 use Rattle.sheer.proofs.share.Tie as tie
 
@@ -14,14 +16,10 @@ share-spec =
     (λ c. search needs)
     (λ c. search needs)
     (λ c. search needs)
-    (λ c. let a = c .before .args in (share-whole (a .a) (a .l .0) (omega arith), omega arith))
-    (λ c. search needs)
-    (λ c. search needs)
-    (λ c. search needs)
-    (λ c. let a = c .before .before .args in (share-none (a .a) (a .l .0) (omega arith) (omega arith), omega arith))
-    (λ c. search needs)
-    (λ c. search needs)
-    (λ c. search needs)
-    (λ c. search needs)
-    (λ c. search needs)
-    (λ c. let a = c .before .before .args in (share-linear (a .a) (a .l .0) (omega arith) (omega arith), omega arith)))
+    (λ c κs. search needs)
+    (λ c κs. search needs)
+    (λ c. let a = c .before .before .args in
+    let l = a .l .0 in (
+      rw (c .lesser .ensures, c .before .less .ensures) (share-same (a .a) (667 * (l + 30000)) (standardAfter l) (after-same l) (omega arith) (standard-pos l)),
+      omega arith,
+    )))

@@ -1,12 +1,14 @@
 // Prints numbers, ships and refusals in document 01's own terms. What is printed is run and compared, not proved.
 use libc::STDOUT_FILENO;
+use mark::Answer;
 use mark::Marks;
-use marks::Answer;
 use ship::House;
 use ship::Ship;
 use ship::refusal;
 use ship::refusal::Refusal;
-use units::AP;
+use units::Ordinate;
+use units::Span;
+use units::Station;
 
 pub fn text(t: &[u8]) {
     io::write_all(STDOUT_FILENO, t);
@@ -31,14 +33,28 @@ pub fn next_signed(n: i64) {
     number(whole::size(n));
 }
 
-// A space, and `n` counted from `zero`, with its sign.
-pub fn next_from(zero: u64, n: u64) {
-    if zero <= n {
-        next(n - zero);
+// A space, and a minus sign if there is something below zero.
+fn next_either(above: u64, below: u64) {
+    text(b" ");
+    if 0 < below {
+        text(b"-");
+        number(below);
     } else {
-        text(b" -");
-        number(zero - n);
+        number(above);
     }
+}
+
+// A space, and a station in signed millimetres forward of the after perpendicular.
+fn next_station(s: Station) {
+    let ap = units::forward_of_ap(Span(0));
+    let forward = units::between(ap, s);
+    let abaft = units::between(s, ap);
+    next_either(forward.0, abaft.0);
+}
+
+// A space, and an ordinate of sheer in signed millimetres.
+fn next_ordinate(o: Ordinate) {
+    next_either(units::mm_above(o), units::mm_below(o));
 }
 
 fn next_flag(b: bool) {
@@ -63,8 +79,8 @@ fn house(h: House) {
         text(b"0");
     }
     next_flag(h.quarterdeck);
-    next_from(AP, h.aft.0);
-    next_from(AP, h.fore.0);
+    next_station(h.aft);
+    next_station(h.fore);
     next(h.height.0);
     text(b"]");
 }
@@ -80,11 +96,12 @@ fn houses(hs: [House; 8], n: usize) {
     }
 }
 
-fn sheer(s: [u64; 6]) {
+fn sheer(s: [Ordinate; 6]) {
     text(b" sheer");
     let mut k = 0;
     while k < 6 {
-        next_from(8192, s[k]);
+        let o = s[k];
+        next_ordinate(o);
         k += 1;
     }
 }

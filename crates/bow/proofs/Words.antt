@@ -1,11 +1,11 @@
 -- The numbers that code computes for b1 and the two sides of b2 are the regulation's fractions.
-use Prim.Native.Nat.{ℕ, _+_, _*_, _-_, _<_, min}
+use Prim.Native.Nat.{ℕ, _+_, _*_, _-_, _<_}
 use native.Mathlib.Omega.{arith}
 use Rattle.whole.specs.Frac.{Frac, _≈f_, _+f_, _*f_, _-f_, whole, frac}
 use Rattle.whole.proofs.Divide.{sub-mul}
 use Rattle.whole.proofs.Frac.{bot-of, refl≈, sym≈, trans≈, *-same, sub-same, factor-out}
 use Rattle.bow.proofs.Cubic.{cubic}
-use Rattle.bow.specs.Bow.{hundreds, exactB1, exactRises, exactFalls}
+use Rattle.bow.specs.Bow.{hundreds, exactB1, rises, falls}
 
 -- the cubic of a fraction, its factor taken out
 taken-out : (x : Frac) → whole 6075 *f x +f whole 200 *f x *f x *f x -f whole 1875 *f x *f x ≈f x *f (whole 6075 +f whole 200 *f x *f x -f whole 1875 *f x)
@@ -30,10 +30,10 @@ b1-words L =
     })
     (*-same (refl≈ (whole 1000)) (sym≈ (taken-out x)))
 
-pub rises-words : (M cb : ℕ) → 0 < M → frac (17 * M * (20800000 + 609 * min cb 10000)) (170 * M) ≈f exactRises cb *f whole 1000000
-unfolding exactRises
+pub rises-words : (M cb : ℕ) → 0 < M → frac (17 * M * (20800000 + 609 * cb)) (170 * M) ≈f rises cb *f whole 1000000
+unfolding rises
 rises-words M cb h = record { eq = rw (bot-of (170 * M) (omega arith)) (omega arith) }
 
-pub falls-words : (L M cwf : ℕ) → 0 < M → frac (17 * M * (1603 * cwf) + 2580000 * L) (170 * M) ≈f exactFalls L M cwf *f whole 1000000
-unfolding exactFalls
+pub falls-words : (L M cwf : ℕ) → 0 < M → frac (17 * M * (1603 * cwf) + 2580000 * L) (170 * M) ≈f falls L M cwf *f whole 1000000
+unfolding falls
 falls-words L M cwf h = record { eq = rw (bot-of (170 * M) (omega arith), bot-of (85 * M) (omega arith)) (omega arith) }

@@ -2,8 +2,11 @@
 ghost use mathlib.Core.Path.{_≡_};
 ghost use Prim.Native.Nat.{_+_, _-_, _*_, _^_, _≤_, _<_};
 ghost use Rattle.whole.specs.Frac.{_≈f_, _*f_, whole, frac};
-ghost use Rattle.bow.specs.Bow.{exactB1, exactRises, exactFalls, higher, lower, sheerTaken, forecastleTaken};
+ghost use Rattle.units.specs.Datum.{lift};
+ghost use Rattle.bow.specs.Bow.{exactB1, rises, falls, higher, lower, sheerTaken, forecastleTaken};
 use units::Freeboard;
+use units::LIFT;
+use units::Ordinate;
 use units::Span;
 
 // b1 in 5000000000ths of a um.
@@ -18,18 +21,18 @@ fn cubic_of(l: Span) -> u64
 
 // What b2 adds, in millionths over 170 M.
 fn rise(m: Span, cb: u64) -> u64
-    requires { ⌜ (1000 ≤ m .0) × (m .0 ≤ 60000) ⌝ }
-    ensures { λ r. ⌜ frac r (170 * m .0) ≈f exactRises cb *f whole 1000000 ⌝ }
-    ensures { λ r. ⌜ r ≤ 457130000 * m .0 ⌝ }
+    requires { ⌜ (1000 ≤ m .0) × (m .0 ≤ 60000) × (cb ≤ 12000) ⌝ }
+    ensures { λ r. ⌜ frac r (170 * m .0) ≈f rises cb *f whole 1000000 ⌝ }
+    ensures { λ r. ⌜ r ≤ 478000000 * m .0 ⌝ }
 {
     let depth = m.0;
-    17 * depth * (20800000 + 609 * whole::lesser(cb, 10000))
+    17 * depth * (20800000 + 609 * cb)
 }
 
 // What it takes away.
 fn fall(l: Span, m: Span, cwf: u64) -> u64
     requires { ⌜ (l .0 ≤ 365000) × (1000 ≤ m .0) × (m .0 ≤ 60000) × (cwf ≤ 10000) ⌝ }
-    ensures { λ r. ⌜ frac r (170 * m .0) ≈f exactFalls (l .0) (m .0) cwf *f whole 1000000 ⌝ }
+    ensures { λ r. ⌜ frac r (170 * m .0) ≈f falls (l .0) (m .0) cwf *f whole 1000000 ⌝ }
     ensures { λ r. ⌜ r ≤ 272510000 * m .0 + 941700000000 ⌝ }
 {
     let depth = m.0;
@@ -39,7 +42,7 @@ fn fall(l: Span, m: Span, cwf: u64) -> u64
 
 // The height above zero, 0 if b2 is below.
 fn up(l: Span, m: Span, cb: u64, cwf: u64) -> Freeboard
-    requires { ⌜ (l .0 ≤ 365000) × (1000 ≤ m .0) × (m .0 ≤ 60000) × (cwf ≤ 10000) ⌝ }
+    requires { ⌜ (l .0 ≤ 365000) × (1000 ≤ m .0) × (m .0 ≤ 60000) × (cb ≤ 12000) × (cwf ≤ 10000) ⌝ }
     ensures { λ r. ⌜ r .0 ≡ higher (l .0) (m .0) cb cwf ⌝ }
     ensures { λ r. ⌜ r .0 ≤ 2 ^ 48 ⌝ }
 {
@@ -51,7 +54,7 @@ fn up(l: Span, m: Span, cb: u64, cwf: u64) -> Freeboard
 
 // Its size below zero, 0 if b2 is above.
 fn down(l: Span, m: Span, cb: u64, cwf: u64) -> Freeboard
-    requires { ⌜ (l .0 ≤ 365000) × (1000 ≤ m .0) × (m .0 ≤ 60000) × (cwf ≤ 10000) ⌝ }
+    requires { ⌜ (l .0 ≤ 365000) × (1000 ≤ m .0) × (m .0 ≤ 60000) × (cb ≤ 12000) × (cwf ≤ 10000) ⌝ }
     ensures { λ r. ⌜ r .0 ≡ lower (l .0) (m .0) cb cwf ⌝ }
     ensures { λ r. ⌜ r .0 ≤ 2 ^ 48 ⌝ }
 {
@@ -62,13 +65,14 @@ fn down(l: Span, m: Span, cb: u64, cwf: u64) -> Freeboard
 }
 
 // The sheer at FP, or its lift, if the ordinate at L/6 from FP is above zero.
-fn sheer_taken(sixth: u64, fp: u64) -> Freeboard
-    requires { ⌜ fp < 16384 ⌝ }
-    ensures { λ r. ⌜ r .0 ≡ sheerTaken sixth fp ⌝ }
-    ensures { λ r. ⌜ r .0 ≤ 16384000 ⌝ }
+fn sheer_taken(sixth: Ordinate, fp: Ordinate) -> Freeboard
+    requires { ⌜ fp .0 < lift + lift ⌝ }
+    ensures { λ r. ⌜ r .0 ≡ sheerTaken (sixth .0) (fp .0) ⌝ }
+    ensures { λ r. ⌜ r .0 ≤ 1000 * (lift + lift) ⌝ }
 {
-    if 8192 < sixth {
-        return units::freeboard_of_mm(fp);
+    let s = sixth.0;
+    if LIFT < s {
+        return units::freeboard_of_mm(fp.0);
     }
     Freeboard(0)
 }
@@ -93,20 +97,15 @@ pub struct Height {
     pub below: Freeboard,
 }
 
-// 39(1), and 39(2)'s sheer: on L, M, Cb and Cwf in ten thousandths, and the ordinates at L/6 from FP and at FP, lifted by 8192 mm.
-pub fn asked(l: Span, m: Span, cb: u64, cwf: u64, sixth: u64, fp: u64) -> Height
-    requires { ⌜ (l .0 ≤ 365000) × (1000 ≤ m .0) × (m .0 ≤ 60000) × (cwf ≤ 10000) × (fp < 16384) ⌝ }
-    ensures { λ r. ⌜ (r .above .0 ≡ higher (l .0) (m .0) cb cwf + sheerTaken sixth 8192) × (r .below .0 ≡ lower (l .0) (m .0) cb cwf + sheerTaken sixth fp) ⌝ }
+// 39(1), and 39(2)'s sheer: on L, M, a Cb that counts and Cwf, both in ten thousandths, and the ordinates at L/6 from FP and at FP.
+pub fn asked(l: Span, m: Span, cb: u64, cwf: u64, sixth: Ordinate, fp: Ordinate) -> Height
+    requires { ⌜ (l .0 ≤ 365000) × (1000 ≤ m .0) × (m .0 ≤ 60000) × (cb ≤ 12000) × (cwf ≤ 10000) × (fp .0 < lift + lift) ⌝ }
+    ensures { λ r. ⌜ (r .above .0 ≡ higher (l .0) (m .0) cb cwf + sheerTaken (sixth .0) lift) × (r .below .0 ≡ lower (l .0) (m .0) cb cwf + sheerTaken (sixth .0) (fp .0)) ⌝ }
     ensures { λ r. ⌜ (r .above .0 ≤ 2 ^ 49) × (r .below .0 ≤ 2 ^ 49) ⌝ }
 {
-    let above = up(l, m, cb, cwf);
-    let back = sheer_taken(sixth, 8192);
-    let below = down(l, m, cb, cwf);
-    let sheer = sheer_taken(sixth, fp);
-    Height {
-        above: Freeboard(above.0 + back.0),
-        below: Freeboard(below.0 + sheer.0),
-    }
+    let above = units::sum(up(l, m, cb, cwf), sheer_taken(sixth, Ordinate(LIFT)));
+    let below = units::sum(down(l, m, cb, cwf), sheer_taken(sixth, fp));
+    Height { above, below }
 }
 
 // 39(2)'s forecastle, of the given length and height, both 0 where there is none: the freeboard that is left to ask for.
@@ -115,6 +114,10 @@ pub fn freeboard(h: Height, l: Span, length: Span, height: Span) -> Freeboard
     ensures { λ r. ⌜ r .0 ≡ h .above .0 - (h .below .0 + forecastleTaken (l .0) (length .0) (height .0)) ⌝ }
     ensures { λ r. ⌜ r .0 ≤ 2 ^ 49 ⌝ }
 {
-    let taken = forecastle_taken(l, length, height);
-    Freeboard(whole::less(h.above.0, h.below.0 + taken.0))
+    let above = h.above;
+    let below = h.below;
+    units::difference(
+        above,
+        units::sum(below, forecastle_taken(l, length, height)),
+    )
 }

@@ -1,18 +1,17 @@
 -- 35: effective lengths, rounded and exact.
-use mathlib.Core.Path.{_≡_, sym, ap, _∙_}
+use mathlib.Core.Path.{_≡_, ap}
 use mathlib.Core.List.{List, [], _∷_}
-use Prim.Native.Nat.{ℕ, suc, _*_, _/_, _≤_, _<_, min}
+use Prim.Native.Nat.{ℕ, _*_, _/_, _≤_, _<_, min}
 use native.Mathlib.Omega.{arith}
-use native.Mathlib.Nat.{mul-comm, div-lt-iff-lt-mul, mul-div-mul-right, min-eq-left, min-eq-right, mul-lt-mul-of-pos-right, mul-le-mul-right, lt-of-mul-lt-mul-right, le-of-mul-le-mul-right}
+use native.Mathlib.Nat.{min-eq-left, min-eq-right, mul-lt-mul-of-pos-right, mul-le-mul-right, lt-of-mul-lt-mul-right, le-of-mul-le-mul-right}
 use borrow.Author.Tests.{ltb-true, ltb-false}
-use lib.Dec.{ltb}
 use lib.ListN.{length}
 use Rattle.whole.specs.Pick.{pick}
-use Rattle.whole.proofs.Pick.{by-cases, same-test}
-use Rattle.whole.specs.Frac.{Frac, _≈f_, whole, frac, _*f_, _÷f_, _<f?_, floor}
+use Rattle.whole.proofs.Pick.{by-cases}
+use Rattle.whole.specs.Frac.{Frac, _≈f_, whole, frac, _*f_, _÷f_, _<f?_}
 use Rattle.whole.proofs.Frac.{bot-of}
 use Rattle.whole.specs.Round.{Below}
-use Rattle.whole.proofs.Round.{by-floor, exactly-below, below-sum, loosen-below}
+use Rattle.whole.proofs.Round.{by-floor, floor-of, exactly-below, below-sum, loosen-below}
 use Rattle.ship.specs.declared.House.{House}
 use Rattle.houses.specs.Length.{total}
 use Rattle.houses.specs.Height.{standardHeight}
@@ -31,20 +30,7 @@ effective-length-below l (h ∷ hs) = loosen-below (omega arith) (below-sum (eff
 pub effective-length-short : (l : ℕ) (hs : List House) → length hs ≤ 8 → Below (effectiveLength l hs) (exactEffectiveLength l hs) (whole 8)
 effective-length-short l hs n = loosen-below (omega arith) (effective-length-below l hs)
 
--- ---- a test with a whole limit, as 37's 70 L um, says the same of both
-pub effective-test : (l n : ℕ) (h : House) → ltb (effectiveOf l h) n ≡ (exactEffective l h <f? whole n)
-unfolding effectiveOf
-effective-test l n h =
-    let x = exactEffective l h in
-    same-test (suc (floor x)) n (suc (x .top * 1)) (n * x .bot)
-    (λ p. omega (arith, div-lt-iff-lt-mul {x = x .top} {y = n} (x .pos) .0 p))
-    (λ p. div-lt-iff-lt-mul {x = x .top} {y = n} (x .pos) .1 (omega arith))
-
 -- ---- what code computes: the quotient by a standard height of size / per mm
-floor-same : (x y : Frac) → x ≈f y → floor x ≡ floor y
-floor-same x y e =
-    sym (mul-div-mul-right (x .top) (x .bot) (y .pos)) ∙ rw (e .eq, mul-comm (x .bot) (y .bot)) (mul-div-mul-right (y .top) (y .bot) (x .pos))
-
 -- a height is below the standard height where its product with `per` is below `size`
 module _ (m h size per : ℕ) (s : Frac) (a : 0 < size) (b : 0 < per) (e : frac size per ≈f s) where
   lower : frac (m * min (h * per) size) size ≈f pick (whole h <f? s) (whole m *f (whole h ÷f s)) (whole m)
@@ -66,4 +52,4 @@ pub effective-quotient : (l : ℕ) (h : House) (size per : ℕ) → 0 < size →
 unfolding effectiveOf exactEffective
 effective-quotient l h size per a b e =
     let m = limitedLength l h in
-    rw (bot-of size a) at (floor-same (frac (m * min (h .height .0 * per) size) size) _ (lower m (h .height .0) size per (standardHeight l (h .quarterdeck)) a b e))
+    floor-of (m * min (h .height .0 * per) size) size {x = exactEffective l h} a (lower m (h .height .0) size per (standardHeight l (h .quarterdeck)) a b e)

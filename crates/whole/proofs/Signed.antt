@@ -2,12 +2,15 @@
 -- Two laws say that nothing is lost by it.
 use Prim.Native.Nat.{ℕ, _+_, _*_, _-_, _/_, _≤_, _<_}
 use mathlib.Core.Path.{_≡_}
+use mathlib.Core.Logic.{_⊎_, inl, inr}
 use native.Mathlib.Omega.{arith}
 use native.Mathlib.Decide.{decLt}
 use native.Mathlib.Nat.{mul-pos, mul-comm, mul-le-mul-right, div-mul-le-self, lt-div-mul-add}
 use Rattle.whole.specs.Divide.{ceilDiv}
 use Rattle.whole.proofs.Divide.{ceil-ge, ceil-lt, ceil-nought, sub-mul, max-mul}
 use Rattle.whole.specs.Frac.{Frac, _≤f_, _<f_, _≈f_, _+f_, _-f_, maxf, whole, ceil, floor}
+use Rattle.whole.specs.Round.{Within, Below}
+use Rattle.whole.proofs.Round.{nought, nought-below}
 use Rattle.whole.proofs.Frac.{refl≤, trans≤, +-mono≤, both≤, max-left, max-right, max-least, sub-add}
 
 -- The signed p - q over d, rounded down, has the part (p - q) / d above zero and the part ceilDiv (q - p) d below it:
@@ -26,6 +29,29 @@ pub signed-down : (x y : Frac)
 signed-down x y =
     let t = signed-floor (x .top * y .bot) (y .top * x .bot) (x .bot * y .bot) (mul-pos (x .pos) (y .pos)) in
     rw (mul-comm (y .bot) (x .bot)) (omega (arith, t .0), omega (arith, t .1))
+
+-- Of two differences one is 0
+pub one-nought : (x y : Frac) → ((x -f y) .top ≡ 0) ⊎ ((y -f x) .top ≡ 0)
+one-nought x y =
+    elim (decLt (x .top * y .bot) (y .top * x .bot)) [
+      | yes t ↦ inl (omega arith)
+      | no t ↦ inr (omega arith)
+    ]
+
+-- and where what is made of that one is 0 too, rounded and exact, only the other's rounding costs
+pub record Cost (c : ℕ) (x : Frac) (d : ℕ) (y s : Frac) : Type 0 where
+  pub up : Frac
+  pub down : Frac
+  pub plus : Within c x up
+  pub minus : Below d y down
+  pub both : up +f down ≤f s
+
+pub one-side : {c d : ℕ} {x y s : Frac} → Within c x s → Below d y s → ((c ≡ 0) × (x .top ≡ 0)) ⊎ ((d ≡ 0) × (y .top ≡ 0)) → Cost c x d y s
+one-side {c} {d} {x} {y} {s} v w z =
+    elim z [
+      | inl p ↦ record { up = whole 0; down = s; plus = nought c x (p .0) (p .1); minus = w; both = omega arith }
+      | inr p ↦ record { up = s; down = whole 0; plus = v; minus = nought-below d y (p .0) (p .1); both = omega arith }
+    ]
 
 -- the greater of two, with t more
 max-under : (x y t m : Frac) → x +f t ≤f m → y +f t ≤f m → maxf x y +f t ≤f m

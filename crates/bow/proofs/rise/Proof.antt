@@ -11,8 +11,10 @@ rise-spec =
     tie.close
     (tie.spec
     (λ c. search needs)
-    (λ c κs. search needs)
     (λ c. search needs)
     (λ c. search needs)
-    (λ c. omega (arith, mul-most (17 * c .before .args .m .0) (20800000 + 609 * c .lesser .result) 1020000 26890000 (omega arith) (omega arith)))
-    (λ c. (rw (c .lesser .ensures) (rises-words (c .before .args .m .0) (c .before .args .cb) (omega arith)), omega (arith, mul-most (17 * c .before .args .m .0) (20800000 + 609 * c .lesser .result) (17 * c .before .args .m .0) 26890000 (omega arith) (omega arith)))))
+    (λ c. let a = c .args in omega (arith, mul-most (17 * a .m .0) (20800000 + 609 * a .cb) 1020000 28108000 (omega arith) (omega arith)))
+    (λ c. let a = c .args in (
+      rises-words (a .m .0) (a .cb) (omega arith),
+      omega (arith, mul-most (17 * a .m .0) (20800000 + 609 * a .cb) (17 * a .m .0) 28108000 (omega arith) (omega arith)),
+    )))

@@ -2,6 +2,7 @@ use native.Mathlib.Omega.{arith}
 use borrow.Author.Needs.{needs}
 use borrow.Author.Tests.{lt-ltb, le-ltb}
 use Rattle.whole.specs.Pick.{pick}
+use Rattle.units.specs.Datum.{lift}
 use Rattle.bow.specs.Bow.{sheerTaken}
 use Rattle.bow.proofs.sheer_taken.Statement.{statement}
 use Rattle.bow.proofs.sheer_taken.Tie as tie
@@ -12,5 +13,5 @@ sheer-taken-spec =
     tie.close
     (tie.spec
     (λ c κs. search needs)
-    (λ c. (simp (lt-ltb 8192 (c .before .before .args .sixth) (omega arith)) (c .freeboard-of-mm .ensures), omega arith))
-    (λ c. (simp (le-ltb 8192 (c .before .args .sixth) (omega arith)), omega arith)))
+    (λ c. (simp (lt-ltb lift (c .before .before .args .sixth .0) (omega arith)) (c .freeboard-of-mm .ensures), omega arith))
+    (λ c. (simp (le-ltb lift (c .before .args .sixth .0) (omega arith)), omega arith)))

@@ -6,7 +6,8 @@ use native.Mathlib.Omega.{arith}
 use Rattle.whole.specs.Frac.{Frac, whole, frac}
 use Rattle.whole.specs.Round.{Within, Below}
 use Rattle.whole.specs.Row.{Rising}
-use Rattle.whole.proofs.Round.{exactly, exactly-below, sum, loosen, loosen-below, within-pick, below-pick}
+use Rattle.whole.proofs.Pick.{by-both}
+use Rattle.whole.proofs.Round.{near-self, exactly, sum, loosen}
 use Rattle.corrections.specs.Deduction37.{lacksForecastle}
 use Rattle.corrections.specs.Gathered.{added, exactAdded, deducted, exactDeducted}
 use Rattle.corrections.proofs.Short29.{short-within}
@@ -20,7 +21,8 @@ pub added-within : (table : ℕ) (typeB : Bool) (l d cb e : ℕ) (x : Frac) → 
 unfolding added exactAdded
 added-within table typeB l d cb e x h k w =
     loosen (omega arith)
-    (sum (fullness-within cb k (sum (exactly table) (within-pick typeB (λ t. short-within l e x h w) (λ t. loosen (omega arith) (exactly 0)))))
+    (sum (fullness-within cb k (sum (exactly table) (by-both (λ (c : ℕ) (y : Frac). Within c y (frac 6 5)) typeB _ _ _ _
+    (λ t. short-within l e x h w) (λ t. near-self (whole 0) (frac 6 5)))))
     (depth-within l d))
 
 -- f is the forecastle's effective length
@@ -28,4 +30,5 @@ pub deducted-below : {row : List ℕ} → Rising 180 1000 row → (typeB : Bool)
     → Below (deducted typeB row f l e) (exactDeducted typeB row f l x) (whole 4)
 unfolding deducted exactDeducted
 deducted-below r typeB f l e x h w =
-    below-pick (lacksForecastle typeB f l) (λ t. loosen-below (omega arith) (exactly-below 0)) (λ t. deduction-below r l e x h w)
+    by-both (λ (c : ℕ) (y : Frac). Below c y (whole 4)) (lacksForecastle typeB f l) _ _ _ _
+    (λ t. near-self (whole 0) (whole 4)) (λ t. deduction-below r l e x h w)

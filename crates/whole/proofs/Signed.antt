@@ -10,7 +10,7 @@ use Rattle.whole.specs.Divide.{ceilDiv}
 use Rattle.whole.proofs.Divide.{ceil-ge, ceil-lt, ceil-nought, sub-mul, max-mul}
 use Rattle.whole.specs.Frac.{Frac, _≤f_, _<f_, _≈f_, _+f_, _-f_, maxf, whole, ceil, floor}
 use Rattle.whole.specs.Round.{Within, Below}
-use Rattle.whole.proofs.Round.{nought, nought-below}
+use Rattle.whole.proofs.Round.{nought}
 use Rattle.whole.proofs.Frac.{refl≤, trans≤, +-mono≤, both≤, max-left, max-right, max-least, sub-add}
 
 -- The signed p - q over d, rounded down, has the part (p - q) / d above zero and the part ceilDiv (q - p) d below it:
@@ -49,8 +49,8 @@ pub record Cost (c : ℕ) (x : Frac) (d : ℕ) (y s : Frac) : Type 0 where
 pub one-side : {c d : ℕ} {x y s : Frac} → Within c x s → Below d y s → ((c ≡ 0) × (x .top ≡ 0)) ⊎ ((d ≡ 0) × (y .top ≡ 0)) → Cost c x d y s
 one-side {c} {d} {x} {y} {s} v w z =
     elim z [
-      | inl p ↦ record { up = whole 0; down = s; plus = nought c x (p .0) (p .1); minus = w; both = omega arith }
-      | inr p ↦ record { up = s; down = whole 0; plus = v; minus = nought-below d y (p .0) (p .1); both = omega arith }
+      | inl p ↦ record { up = whole 0; down = s; plus = nought x (whole c) (p .1) (p .0); minus = w; both = omega arith }
+      | inr p ↦ record { up = s; down = whole 0; plus = v; minus = nought (whole d) y (p .0) (p .1); both = omega arith }
     ]
 
 -- the greater of two, with t more

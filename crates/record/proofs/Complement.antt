@@ -21,6 +21,6 @@ turn-above half u g h =
 pub turn-turn : (half u : ℕ) → u < 2 * half → turn half (turn half u) ≡ u
 turn-turn half u h =
     elim (decLt u half) [
-      yes l ↦ rw (turn-below half u l, turn-above half (u + half) (omega arith) (omega arith)) (omega arith)
-    | no g ↦ rw (turn-above half u (omega arith) h, turn-below half (u - half) (omega arith)) (omega arith)
+      | yes l ↦ rw (turn-below half u l, turn-above half (u + half) (omega arith) (omega arith)) (omega arith)
+      | no g ↦ rw (turn-above half u (omega arith) h, turn-below half (u - half) (omega arith)) (omega arith)
     ]

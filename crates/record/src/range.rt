@@ -18,10 +18,14 @@ pub const BLOCK: u64 = 1 << width::BLOCK;
 
 pub const WATERPLANE: u64 = 1 << width::WATERPLANE;
 
+pub const ORDINATE: u64 = 1 << width::ORDINATE;
+
 pub const DISPLACEMENT: u64 = 1 << width::DISPLACEMENT;
 
 // ---- a house
 pub const FLAG: u64 = 1 << width::FLAG;
+
+pub const END: u64 = 1 << width::END;
 
 pub const HEIGHT: u64 = 1 << width::HEIGHT;
 

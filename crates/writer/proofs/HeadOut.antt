@@ -8,9 +8,10 @@ use native.Mathlib.Omega.{arith}
 use Rattle.bits.specs.Fields.{pack, bytes, Fit}
 use Rattle.bits.proofs.Radix.{length-bytes}
 use Rattle.bits.proofs.Joined.{bytes-append, bytes-pack}
-use Rattle.ship.specs.declared.Ship.{Ship}
+use Rattle.record.specs.declared.Head.{Head}
 use Rattle.record.specs.Layout.{headWidths, headFields, headBytes}
-use Rattle.record.proofs.Parts.{three-parts}
+use Rattle.record.specs.Words.{first, sizes, fullness, four, two}
+use Rattle.writer.proofs.Parts.{three-parts}
 
 -- words put over three parts of a slice that they fill
 pub three-words : (d : List ℕ) (a b c A B C : ℕ) {p q r : List ℕ} → length d ≡ a + b + c
@@ -38,44 +39,40 @@ three-words d a b c A B C {p} {q} {r} l ep eq er =
     let r′ : r ≡ bytes c C = er ∙ ap (λ (k : ℕ). bytes k C) (length-take-le c (drop (a + b) y) (omega (arith, length-drop (a + b) y))) in
     three-parts d p q r a b c lp lq l ∙ ap₂ _++_ (ap₂ _++_ p′ q′) r′
 
-abbrev kindWord : Ship → ℕ
-kindWord x = pack (4 ∷ 2 ∷ 4 ∷ 6 ∷ []) (1 ∷ x .kind ∷ x .n ∷ 0 ∷ [])
+-- L, D, M, Cb and Cwf, of two words: M stands across them
+abbrev across : List ℕ
+across = 20 ∷ 16 ∷ 16 ∷ 14 ∷ 14 ∷ []
 
-abbrev lengthWord : Ship → ℕ
-lengthWord x = pack (20 ∷ 16 ∷ 4 ∷ []) (x .length .0 ∷ x .depth .0 ∷ x .moulded .0 / 4096 ∷ [])
+module _ (h : Head) (f : Fit headWidths (headFields h)) where
+  abbrev firstWord : ℕ
+  firstWord = pack first (take 4 (headFields h))
 
-abbrev blockWord : Ship → ℕ
-blockWord x = pack (12 ∷ 14 ∷ 14 ∷ []) (x .moulded .0 % 4096 ∷ x .block ∷ x .waterplane ∷ [])
+  abbrev sizesWord : ℕ
+  sizesWord = pack sizes (h .length .0 ∷ h .depth .0 ∷ h .moulded .0 / 4096 ∷ [])
 
-abbrev sheerWord : Ship → ℕ
-sheerWord x = pack (14 ∷ 14 ∷ 14 ∷ 14 ∷ []) (take 4 (drop 9 (headFields x)))
+  abbrev fullnessWord : ℕ
+  fullnessWord = pack fullness (h .moulded .0 % 4096 ∷ h .block ∷ h .waterplane ∷ [])
 
-abbrev displacementWord : Ship → ℕ
-displacementWord x = pack (14 ∷ 14 ∷ 20 ∷ []) (take 3 (drop 13 (headFields x)))
-
-module _ (x : Ship) (f : Fit headWidths (headFields x)) where
-  -- L, D, M, Cb and Cwf, cut in M
-  cut : bytes 10 (pack (20 ∷ 16 ∷ 16 ∷ 14 ∷ 14 ∷ []) (x .length .0 ∷ x .depth .0 ∷ x .moulded .0 ∷ x .block ∷ x .waterplane ∷ []))
-      ≡ bytes 5 (lengthWord x) ++ bytes 5 (blockWord x)
+  cut : bytes 10 (pack across (take 5 (drop 4 (headFields h)))) ≡ bytes 5 sizesWord ++ bytes 5 fullnessWord
   unfolding pack
-  cut = ap (bytes 10) (omega arith) ∙ bytes-append 5 5 (lengthWord x) (blockWord x) (omega arith)
+  cut = ap (bytes 10) (omega arith) ∙ bytes-append 5 5 sizesWord fullnessWord (omega arith)
 
-  pub sizes-words : (bytes 2 (kindWord x) ++ bytes 5 (lengthWord x)) ++ bytes 5 (blockWord x) ≡ bytes 12 (pack (take 9 headWidths) (take 9 (headFields x)))
-  sizes-words =
-      let vs = take 9 (headFields x) in
-      append-assoc (bytes 2 (kindWord x)) (bytes 5 (lengthWord x)) (bytes 5 (blockWord x))
-      ∙ sym (bytes-pack 2 10 (4 ∷ 2 ∷ 4 ∷ 6 ∷ []) (20 ∷ 16 ∷ 16 ∷ 14 ∷ 14 ∷ []) (take 4 vs) (drop 4 vs) refl refl (omega arith)
-      ∙ ap (λ (l : List ℕ). bytes 2 (kindWord x) ++ l) cut)
+  pub dimensions-words : (bytes 2 firstWord ++ bytes 5 sizesWord) ++ bytes 5 fullnessWord ≡ bytes 12 (pack (take 9 headWidths) (take 9 (headFields h)))
+  dimensions-words =
+      let vs = take 9 (headFields h) in
+      append-assoc (bytes 2 firstWord) (bytes 5 sizesWord) (bytes 5 fullnessWord)
+      ∙ sym (bytes-pack 2 10 first across (take 4 vs) (drop 4 vs) refl refl (omega arith) ∙ ap (λ (l : List ℕ). bytes 2 firstWord ++ l) cut)
 
-  pub sheer-words : (bytes 7 (sheerWord x) ++ bytes 6 (displacementWord x)) ++ bytes 2 (x .immersion) ≡ bytes 15 (pack (drop 9 headWidths) (drop 9 (headFields x)))
+  pub weights-words : (bytes 7 (pack four (take 4 (drop 9 (headFields h)))) ++ bytes 6 (pack two (take 3 (drop 13 (headFields h))))) ++ bytes 2 (h .immersion)
+      ≡ bytes 15 (pack (drop 9 headWidths) (drop 9 (headFields h)))
   unfolding pack
-  sheer-words =
-      let vs = drop 9 (headFields x) in
-      sym (bytes-pack 13 2 (14 ∷ 14 ∷ 14 ∷ 14 ∷ 14 ∷ 14 ∷ 20 ∷ []) (16 ∷ []) (take 7 vs) (drop 7 vs) refl refl (omega arith)
+  weights-words =
+      let vs = drop 9 (headFields h) in
+      sym (bytes-pack 13 2 (four ++ two) (16 ∷ []) (take 7 vs) (drop 7 vs) refl refl (omega arith)
       ∙ ap₂ _++_
-      (bytes-pack 7 6 (14 ∷ 14 ∷ 14 ∷ 14 ∷ []) (14 ∷ 14 ∷ 20 ∷ []) (take 4 vs) (take 3 (drop 4 vs)) refl refl (omega arith))
+      (bytes-pack 7 6 four two (take 4 vs) (take 3 (drop 4 vs)) refl refl (omega arith))
       (ap (bytes 2) (omega arith)))
 
-  pub head-halves : headBytes x ≡ bytes 12 (pack (take 9 headWidths) (take 9 (headFields x))) ++ bytes 15 (pack (drop 9 headWidths) (drop 9 (headFields x)))
+  pub head-halves : headBytes h ≡ bytes 12 (pack (take 9 headWidths) (take 9 (headFields h))) ++ bytes 15 (pack (drop 9 headWidths) (drop 9 (headFields h)))
   unfolding headBytes
-  head-halves = bytes-pack 12 15 (take 9 headWidths) (drop 9 headWidths) (take 9 (headFields x)) (drop 9 (headFields x)) refl refl (omega arith)
+  head-halves = bytes-pack 12 15 (take 9 headWidths) (drop 9 headWidths) (take 9 (headFields h)) (drop 9 (headFields h)) refl refl (omega arith)

@@ -3,9 +3,9 @@ use mathlib.Core.Path.{ap, _∙_}
 use native.Mathlib.Omega.{arith}
 use borrow.Author.Needs.{needs}
 use Rattle.bits.specs.Fields.{pack, bytes}
 use Rattle.record.specs.Layout.{houseBytes}
-use Rattle.record.proofs.writer.put_house.Statement.{statement}
-use Rattle.record.proofs.writer.put_house.Tie as tie
+use Rattle.writer.proofs.put_house.Statement.{statement}
+use Rattle.writer.proofs.put_house.Tie as tie
 
 pub put-house-spec : {M : Type 1} → statement M
 unfolding houseBytes pack
@@ -13,14 +13,14 @@ put-house-spec =
     tie.close
     (tie.spec
     (λ c κs. search needs)
+    (λ c. search needs)
     (λ c κs. search needs)
+    (λ c. search needs)
+    (λ c. search needs)
     (λ c κs. search needs)
+    (λ c. search needs)
+    (λ c. search needs)
     (λ c κs. search needs)
-    (λ c. search needs)
-    (λ c. search needs)
-    (λ c. search needs)
-    (λ c. search needs)
-    (λ c. search needs)
     (λ c. search needs)
     (λ c. search needs)
     (λ c. search needs)
@@ -29,13 +29,9 @@ put-house-spec =
     (λ c. search needs)
     (λ c.
     let w = c .before .before in
-    let t = w .before .before in
-    let b = t .before .before in
+    let f = w .before .before .before in
+    let a = f .before in
+    let q = a .before in
+    let e = q .before in
     w .put-word .ensures
-    ∙ rw (
-      b .before .before .before .pre .0,
-      t .turned212 .ensures .0,
-      t .before .turned21 .ensures .0,
-      b .bit-of2 .ensures .0,
-      b .before .bit-of .ensures .0,
-    ) (ap (bytes 8) (omega arith))))
+    ∙ rw (e .before .before .pre .0, f .station-field2 .ensures .0, a .station-field .ensures .0, q .bit-of2 .ensures .0, e .bit-of .ensures .0) (ap (bytes 8) (omega arith))))

@@ -7,10 +7,10 @@ use lib.Seq.{length-take-le, getD-take}
 use denote.Ref.{now}
 use native.Mathlib.Omega.{arith}
 use borrow.Author.Needs.{needs}
 use Rattle.record.specs.Layout.{housesBytes}
-use Rattle.record.proofs.Parts.{houses-more}
-use Rattle.record.proofs.writer.put_houses.Statement.{statement}
-use Rattle.record.proofs.writer.put_houses.Tie as tie
+use Rattle.writer.proofs.Parts.{houses-more}
+use Rattle.writer.proofs.put_houses.Statement.{statement}
+use Rattle.writer.proofs.put_houses.Tie as tie
 
 abbrev Inv-loop : tie.InvT-loop
 Inv-loop buf₀ n houses k₀ buf k =

@@ -10,10 +10,10 @@ use Rattle.whole.specs.Pick.{pick}
 use Rattle.ship.specs.Refusals.{Paper, accepted, paper, first}
 use Rattle.ship.specs.Checks.{shipLines}
 use Rattle.ship.proofs.Accepted.{good}
 use Rattle.record.specs.Writing.{writingOf, written}
 use Rattle.record.proofs.Written.{writing-accepted, writing-short, writing-refused, written-refused, head-fits, low}
-use Rattle.record.proofs.writer.write.Statement.{statement}
-use Rattle.record.proofs.writer.write.Tie as tie
+use Rattle.writer.proofs.write.Statement.{statement}
+use Rattle.writer.proofs.write.Tie as tie
 
 -- the ship passed its checks
 passed : (t : tie.After-enum-told) → first (shipLines (t .before .before .before .before .before .before .before .before .args .x)) ≡ accepted

@@ -1,20 +1,24 @@
 use native.Mathlib.Omega.{arith}
 use borrow.Author.Needs.{needs}
 use Rattle.bits.specs.Fields.{pack}
-use Rattle.record.proofs.writer.sheer_word.Statement.{statement}
-use Rattle.record.proofs.writer.sheer_word.Tie as tie
+use Rattle.writer.proofs.four_word.Statement.{statement}
+use Rattle.writer.proofs.four_word.Tie as tie
 
-pub sheer-word-spec : {M : Type 1} → statement M
+pub four-word-spec : {M : Type 1} → statement M
 unfolding pack
-sheer-word-spec =
+four-word-spec =
     tie.close
     (tie.spec
-    (λ c κs. search needs)
     (λ c. search needs)
     (λ c κs. search needs)
     (λ c. search needs)
     (λ c. search needs)
     (λ c κs. search needs)
+    (λ c. search needs)
+    (λ c. search needs)
+    (λ c. search needs)
+    (λ c κs. search needs)
+    (λ c. search needs)
     (λ c. search needs)
     (λ c. search needs)
     (λ c κs. search needs)

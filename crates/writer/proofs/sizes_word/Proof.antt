@@ -1,12 +1,12 @@
 use native.Mathlib.Omega.{arith}
 use borrow.Author.Needs.{needs}
 use Rattle.bits.specs.Fields.{pack}
-use Rattle.record.proofs.writer.length_word.Statement.{statement}
-use Rattle.record.proofs.writer.length_word.Tie as tie
+use Rattle.writer.proofs.sizes_word.Statement.{statement}
+use Rattle.writer.proofs.sizes_word.Tie as tie
 
-pub length-word-spec : {M : Type 1} → statement M
+pub sizes-word-spec : {M : Type 1} → statement M
 unfolding pack
-length-word-spec =
+sizes-word-spec =
     tie.close
     (tie.spec
     (λ c. search needs)

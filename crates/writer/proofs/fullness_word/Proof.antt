@@ -1,12 +1,12 @@
 use native.Mathlib.Omega.{arith}
 use borrow.Author.Needs.{needs}
 use Rattle.bits.specs.Fields.{pack}
-use Rattle.record.proofs.writer.kind_word.Statement.{statement}
-use Rattle.record.proofs.writer.kind_word.Tie as tie
+use Rattle.writer.proofs.fullness_word.Statement.{statement}
+use Rattle.writer.proofs.fullness_word.Tie as tie
 
-pub kind-word-spec : {M : Type 1} → statement M
+pub fullness-word-spec : {M : Type 1} → statement M
 unfolding pack
-kind-word-spec =
+fullness-word-spec =
     tie.close
     (tie.spec
     (λ c. search needs)

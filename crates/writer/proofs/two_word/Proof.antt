@@ -1,15 +1,17 @@
 use native.Mathlib.Omega.{arith}
 use borrow.Author.Needs.{needs}
 use Rattle.bits.specs.Fields.{pack}
-use Rattle.record.proofs.writer.displacement_word.Statement.{statement}
-use Rattle.record.proofs.writer.displacement_word.Tie as tie
+use Rattle.writer.proofs.two_word.Statement.{statement}
+use Rattle.writer.proofs.two_word.Tie as tie
 
-pub displacement-word-spec : {M : Type 1} → statement M
+pub two-word-spec : {M : Type 1} → statement M
 unfolding pack
-displacement-word-spec =
+two-word-spec =
     tie.close
     (tie.spec
+    (λ c. search needs)
     (λ c κs. search needs)
+    (λ c. search needs)
     (λ c. search needs)
     (λ c κs. search needs)
     (λ c. search needs)

@@ -6,7 +6,6 @@ ghost use Rattle.marks.specs.Marks.{sheet, sheetFor, sheetIn};
 ghost use Rattle.marks.specs.Exact.{Bounded};
 use mark::Marks;
 use mark::Outcome;
-use record::reader;
 use ship::Ship;
 use ship::refusal::Refusal;
 use ship::refusal::Verdict;

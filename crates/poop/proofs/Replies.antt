@@ -1,48 +1,36 @@
--- What the question's parts say, put together: an accepted reading and a refused one; and that no second answer meets the contract.
+-- The answer of bytes that are read, and of bytes that are refused; and that no second answer meets the contract.
 use Prim.Native.Nat.{ℕ}
-use mathlib.Core.Bool.{false}
-use mathlib.Core.List.{List, _++_}
-use mathlib.Core.Path.{_≡_, refl, sym, ap, _∙_}
-use lib.Dec.{eqb}
-use borrow.Author.Tests.{ne-eqb}
+use mathlib.Core.List.{List}
+use mathlib.Core.Path.{_≡_, sym, ap, _∙_}
 use native.Mathlib.Omega.{arith}
-use Rattle.whole.specs.Pick.{pick}
 use Rattle.ship.specs.declared.Ship.{Ship}
 use Rattle.ship.specs.declared.refusal.Refusal.{Refusal}
 use Rattle.ship.specs.declared.refusal.Verdict.the-variants as Verdicts
-use Rattle.ship.specs.Refusals.{Paper, accepted, refused, numberOf, placeOf, first}
-use Rattle.ship.specs.Checks.{shipLines}
-use Rattle.ship.proofs.Lines.{first-skip, first-append}
+use Rattle.ship.specs.Refusals.{Paper, Line, accepted, refused, numberOf, placeOf}
 use Rattle.ship.proofs.OneToOne.{one-verdict, number-above-0}
+use Rattle.ship.proofs.Lines.{beside-refusal}
 use Rattle.record.specs.Layout.{shipIn}
-use Rattle.record.specs.Reading.{frameLines, readingIn}
-use Rattle.record.proofs.Framed.{passes-all, ship-is}
+use Rattle.record.specs.Reading.{readingIn}
+use Rattle.record.proofs.Calls.{call-read, call-refused}
 use Rattle.poop.specs.declared.Answer.{Answer}
 use Rattle.poop.specs.declared.Answer.the-variants.{Poop, Refused}
 use Rattle.poop.specs.Question.{Reply, refusing, reply, askLines, replyOf, shortestFor, replyFor, replyIn}
 
--- bytes that read as a ship have its answer
-pub reply-read : (s : List ℕ) (x : Ship) (height wish : ℕ) → readingIn s ≡ record { verdict = accepted; ship = x } → replyIn s height wish ≡ replyFor x height wish
-unfolding replyIn replyFor
-reply-read s x height wish e =
-    let y = shipIn s in
-    let p = passes-all s x e in
-    let ask = askLines y height wish in
-    let t : first (frameLines s ++ (shipLines y ++ ask)) ≡ first ask =
-    first-skip (frameLines s) (shipLines y ++ ask) (p .0) ∙ first-skip (shipLines y) ask (p .1) in
-    ap (λ (v : Paper). replyOf v (shortestFor y height wish)) t
-    ∙ ap (λ (z : Ship). replyOf (first (askLines z height wish)) (shortestFor z height wish)) (ship-is s x e)
+module _ (height wish : ℕ) where
+  -- the call's answer by its verdict, and its own lines
+  abbrev answer : Paper → Ship → Reply
+  answer v x = replyOf v (shortestFor x height wish)
 
--- bytes that are refused have that refusal and no length
-pub reply-refused : (s : List ℕ) (r : Refusal) (height wish : ℕ) → readingIn s .verdict ≡ refused (numberOf r) (placeOf r)
-    → replyIn s height wish ≡ refusing (refused (numberOf r) (placeOf r))
-unfolding replyIn readingIn pick
-reply-refused s r height wish e =
-    let y = shipIn s in
-    let n : eqb (numberOf r) 0 ≡ false = ne-eqb (numberOf r) 0 (λ z. omega (arith, number-above-0 r)) in
-    let t : first ((frameLines s ++ shipLines y) ++ askLines y height wish) ≡ refused (numberOf r) (placeOf r) =
-    first-append (frameLines s ++ shipLines y) (askLines y height wish) (omega arith) ∙ rw (e, n) refl in
-    ap (λ (v : Paper). replyOf v (shortestFor y height wish)) t ∙ rw n refl
+  abbrev more : Ship → List Line
+  more x = askLines x height wish
+
+  pub reply-read : (s : List ℕ) (x : Ship) → readingIn s ≡ record { verdict = accepted; ship = x } → replyIn s height wish ≡ replyFor x height wish
+  unfolding replyIn replyFor
+  reply-read s x e = call-read answer more s x e
+
+  pub reply-refused : (s : List ℕ) (r : Refusal) → readingIn s .verdict ≡ refused (numberOf r) (placeOf r) → replyIn s height wish ≡ refusing (refused (numberOf r) (placeOf r))
+  unfolding replyIn
+  reply-refused s r e = call-refused answer more s r e ∙ beside-refusal r (shortestFor (shipIn s) height wish) (refusing (refused (numberOf r) (placeOf r)))
 
 -- ---- 01's number, place and length name one answer
 pub one-reply : (a b : Answer) → reply a ≡ reply b → a ≡ b

@@ -17,7 +17,8 @@ use Rattle.record.specs.Layout.{shipIn}
 use Rattle.record.specs.Reading.{frameLines, readingIn}
 use Rattle.record.proofs.Framed.{passes-all, ship-is}
 use Rattle.marks.specs.Steps.{summerOf}
-use Rattle.marks.specs.Marks.{markLines}
+use Rattle.mark.specs.Others.{markLines}
+use Rattle.marks.specs.Marks.{particularsOf}
 use Rattle.poop.specs.Poop.{poopHouse, withFirst, withPoop, within, marksWithin, fitsAt}
 use Rattle.poop.specs.Question.{Reply, refusing, noLength, Shortest, fitting, none, askLines, replyOf, shortestFor, replyIn}
 use Rattle.poop.proofs.Search.{is-shortest, one-shortest}
@@ -100,11 +101,12 @@ fields-either x h true p = p
 fields-either x h false p = p
 
 pub whole-calculation : (s : List ℕ) (x : Ship) (height wish k : ℕ) → readingIn s ≡ record { verdict = accepted; ship = x }
-    → let y = withPoop height k x in fitsAt x height wish k ≡ within (shipLines y ++ markLines y) (summerOf y) wish
+    → let y = withPoop height k x in
+    fitsAt x height wish k ≡ within (shipLines y ++ markLines (particularsOf y) (summerOf y)) (summerOf y) wish
 unfolding fitsAt marksWithin within withPoop
 whole-calculation s x height wish k e =
     let y = withPoop height k x in
     let hs = houseLines (y .length .0) (housesOf y) in
     let a : AllPass (shipLines x) = subst (λ (z : Ship). AllPass (shipLines z)) (ship-is s x e) (passes-all s x e .1) in
     let p = fields-either x (poopHouse height k) (eqb k 0) (all-pass-split (fieldLines x) (houseLines (x .length .0) (housesOf x)) a .0) in
-    ap (λ (v : Paper). eqb (v .number) 0 && leb (summerOf y) wish) (sym (first-skip (fieldLines y) (hs ++ markLines y) p))
+    ap (λ (v : Paper). eqb (v .number) 0 && leb (summerOf y) wish) (sym (first-skip (fieldLines y) (hs ++ markLines (particularsOf y) (summerOf y)) p))

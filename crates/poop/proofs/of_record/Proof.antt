@@ -31,8 +31,8 @@ of-record-spec =
     (λ c. let t = c .before .before in
     let r = t .before .before in
     let a = r .before .before .args in
-    c .of-ship .ensures ∙ sym (reply-read (now (a .s)) (r .read .result .ship) (a .height) (a .wish) (told t)))
+    c .of-ship .ensures ∙ sym (reply-read (a .height) (a .wish) (now (a .s)) (r .read .result .ship) (told t)))
     (λ c. let v = c .before in
     let r = v .before .before in
     let a = r .before .before .args in
-    sym (reply-refused (now (a .s)) (v .v .given .0 .0) (a .height) (a .wish) (sym (ap (λ (z : Reading). z .verdict) (r .read .ensures)) ∙ ap paper (v .v .given .1)))))
+    sym (reply-refused (a .height) (a .wish) (now (a .s)) (v .v .given .0 .0) (sym (ap (λ (z : Reading). z .verdict) (r .read .ensures)) ∙ ap paper (v .v .given .1)))))

@@ -3,7 +3,6 @@ ghost use mathlib.Core.Path.{_≡_};
 ghost use Prim.Native.Nat.{_≤_, _<_};
 ghost use Rattle.marks.specs.Steps.{Sound};
 ghost use Rattle.poop.specs.Question.{reply, noRoom, shortestFor, replyFor, replyIn};
-use record::reader;
 use ship::Ship;
 use ship::refusal::Refusal;
 use ship::refusal::Verdict;

@@ -4,7 +4,7 @@ use mathlib.Core.Path.{_≡_}
 use mathlib.Core.Logic.{_⊎_, inl, inr}
 use native.Mathlib.Omega.{arith}
 use native.Mathlib.Nat.{mul-zero, zero-mul}
-use Rattle.whole.specs.Frac.{Frac, _≤f_, _+f_, _*f_, _-f_, whole, frac, ceil, floor}
+use Rattle.whole.specs.Frac.{_≤f_, _+f_, _*f_, _-f_, whole, frac, ceil, floor}
 use Rattle.whole.specs.Round.{Within, Below}
 use Rattle.whole.proofs.Divide.{mul-most}
 use Rattle.whole.proofs.Frac.{bot-of, trans≤, same, sym≈, sub-le}

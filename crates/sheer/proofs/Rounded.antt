@@ -4,7 +4,7 @@ use mathlib.Core.Path.{_≡_}
 use native.Mathlib.Omega.{arith}
 use native.Mathlib.Nat.{mul-pos}
 use Rattle.whole.specs.Divide.{ceilDiv}
-use Rattle.whole.specs.Frac.{Frac, _≤f_, _<f_, _≈f_, _+f_, _*f_, _-f_, whole, frac, floor}
+use Rattle.whole.specs.Frac.{_≤f_, _<f_, _≈f_, _+f_, _*f_, _-f_, whole, frac, floor}
 use Rattle.whole.proofs.Frac.{refl≈, trans≈, *-same, sub-same, one-bottom}
 use Rattle.whole.proofs.Round.{ceil-of, floor-of, floor-lesser}
 use Rattle.whole.proofs.Signed.{signed-down}

@@ -1,6 +1,6 @@
 -- The numbers that code computes are the regulation's fractions. Its sums are in 30000ths of a mm, where the standard is whole.
 use Prim.Native.Nat.{ℕ, suc, _+_, _*_, _-_, _≤_, _<_, min}
-use mathlib.Core.Path.{_≡_, ap, _∙_}
+use mathlib.Core.Path.{_≡_, _∙_}
 use native.Mathlib.Omega.{arith}
 use native.Mathlib.Nat.{mul-pos, one-mul, mul-one}
 use lib.Dec.{ltb}

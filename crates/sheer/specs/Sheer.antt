@@ -32,7 +32,7 @@ standardAfter L = frac (weighted 250 111 28) 10 *f unit L
 unfoldable pub standardForward : ℕ → Frac
 standardForward L = frac (weighted 500 222 56) 10 *f unit L
 
--- ---- 38(9): the excess of a half is (actual sum minus standard sum)/8; and its deficiency
+-- ---- 38(9): the excess of a half is (actual sum minus standard sum)/8 mm; and its deficiency
 unfoldable pub above : ℕ → Frac → Frac
 above sum standard = (whole sum -f lifted standard) *f frac 1000 8
 
@@ -43,7 +43,8 @@ lacks sum standard = (lifted standard -f whole sum) *f frac 1000 8
 unfoldable pub afterCounts : ℕ → ℕ → ℕ → Frac
 afterCounts after forward L = pick (whole forward <f? lifted (standardForward L)) (whole 0) (above after (standardAfter L))
 
--- forward excess with after deficiency: forward counts whole if the after sum is at least 75% of standard, 0 at 50% or less, linear between
+-- forward excess with after deficiency: forward counts whole if the after sum is at least 75% of standard, 0 at 50% or less, linear between;
+-- that is the part of the way from 50% to 75%. Where after lacks nothing it is past them
 unfoldable pub forwardShare : ℕ → Frac → Frac
 forwardShare after standard = minf (whole 1) ((whole after -f lifted (frac 50 100 *f standard)) ÷f (frac 25 100 *f standard))
 

@@ -2,11 +2,11 @@ use mathlib.Core.Path.{_≡_, _∙_}
 use Prim.Native.Nat.{_*_, _≤_, _^_}
 use native.Mathlib.Omega.{arith}
 use borrow.Author.Needs.{needs}
+use Rattle.whole.specs.Frac.{ceil}
 use Rattle.whole.proofs.Divide.{ceil-most, mul-most, room}
-use Rattle.whole.specs.Frac.{whole, _*f_, _-f_, ceil}
-use Rattle.whole.proofs.Frac.{scaled}
 use Rattle.whole.proofs.Round.{ceil-of}
-use Rattle.bow.specs.Bow.{exactB1, rises, falls, higher, b2Above, exactB2Above}
+use Rattle.bow.specs.Bow.{exactB1, b2Above, higher}
+use Rattle.bow.proofs.Words.{above-quotient}
 use Rattle.bow.proofs.up.Statement.{statement}
 use Rattle.bow.proofs.up.Tie as tie
 
@@ -21,7 +21,7 @@ second c =
     rw (c .div-up2 .ensures) (ceil-most (c .before .less .result) (170 * a .m .0) 2820000 (omega arith) (omega arith))
 
 pub up-spec : {M : Type 1} → statement M
-unfolding higher b2Above exactB2Above
+unfolding higher
 up-spec =
     tie.close
     (tie.spec
@@ -38,11 +38,12 @@ up-spec =
     let r = e .before .before in
     let q = r .before .before in
     let a = q .before .before .args in
-    let b1 : q .div-up .result ≡ ceil (exactB1 (a .l .0)) = q .div-up .ensures ∙ ceil-of _ 5000000000 {x = exactB1 (a .l .0)} (omega arith) (q .before .cubic-of .ensures .0) in
+    let b1 : q .div-up .result ≡ ceil (exactB1 (a .l .0)) =
+    q .div-up .ensures ∙ ceil-of _ 5000000000 {x = exactB1 (a .l .0)} (omega arith) (q .before .cubic-of .ensures .0) in
     let b2 : e .div-up2 .result ≡ b2Above (a .l .0) (a .m .0) (a .cb) (a .cwf) =
-    e .div-up2 .ensures ∙ rw (e .before .less .ensures)
-    (ceil-of _ (170 * a .m .0) {x = (rises (a .cb) -f falls (a .l .0) (a .m .0) (a .cwf)) *f whole 1000000} (omega arith)
-    (scaled (rises (a .cb)) (falls (a .l .0) (a .m .0) (a .cwf)) _ _ (170 * a .m .0) (whole 1000000) (omega arith) (r .before .rise .ensures .0) (r .fall .ensures .0))) in (
+    e .div-up2 .ensures
+    ∙ rw (e .before .less .ensures) (above-quotient (a .l .0) (a .m .0) (a .cb) (a .cwf) _ _ (omega arith) (r .before .rise .ensures .0) (r .fall .ensures .0)) in (
       rw (c .mul-div-up .ensures, b1, b2),
-      rw (c .mul-div-up .ensures) (ceil-most _ 1000000 (2 ^ 48) (omega arith) (omega (arith, mul-most (q .div-up .result) (e .div-up2 .result) 6920000 2820000 (first e) (second e)))),
+      rw (c .mul-div-up .ensures)
+          (ceil-most _ 1000000 (2 ^ 48) (omega arith) (omega (arith, mul-most (q .div-up .result) (e .div-up2 .result) 6920000 2820000 (first e) (second e)))),
     )))

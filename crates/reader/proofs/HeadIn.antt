@@ -7,11 +7,10 @@ use lib.Seq.{drop-drop}
 use native.Mathlib.Omega.{arith}
 use Rattle.bits.specs.Fields.{number, unpack, piece, Bytes}
 use Rattle.bits.proofs.Joined.{part-lt, part-joined, unpack-parts}
-use Rattle.units.specs.declared.Ordinate.{Ordinate}
 use Rattle.units.specs.Datum.{lift}
 use Rattle.record.specs.declared.Head.{Head}
 use Rattle.record.specs.Layout.{headWidths, headOf, headIn, ordinateIn}
-use Rattle.record.specs.Words.{first, four, two}
+use Rattle.record.specs.Words.{first, four, two, sheerIn}
 use Rattle.record.proofs.Complement.{turn-low}
 
 -- the head that six words hold
@@ -26,9 +25,7 @@ headOfWords a b c d e f = record {
   moulded = record { 0 = b % 2 ^ 4 * 2 ^ 12 + c / 2 ^ 28 };
   block = c / 2 ^ 14 % 2 ^ 14;
   waterplane = c % 2 ^ 14;
-  sheer =
-      ordinateIn (d / 2 ^ 42) ∷ ordinateIn (d / 2 ^ 28) ∷ ordinateIn (d / 2 ^ 14)
-      ∷ ordinateIn d ∷ ordinateIn (e / 2 ^ 34) ∷ ordinateIn (e / 2 ^ 20) ∷ [];
+  sheer = sheerIn d e;
   displacement = e % 2 ^ 20;
   immersion = f;
 }

@@ -5,8 +5,10 @@ ghost use lib.ListN.{length};
 ghost use Rattle.bits.specs.Fields.{unpack};
 ghost use Rattle.ship.specs.Refusals.{paper, first, accepted, refused, numberOf, placeOf};
 ghost use Rattle.ship.specs.Vessel.{noShip};
+ghost use Rattle.ship.specs.Checks.{shipLines};
 ghost use Rattle.record.specs.Layout.{recordLength, houseWidths, houseOf, headIn, placesIn, shipOf};
-ghost use Rattle.record.specs.Reading.{sparesIn, headLines, readingIn};
+ghost use Rattle.record.specs.Words.{sheerIn};
+ghost use Rattle.record.specs.Reading.{sparesIn, headLines, readingOf, readingIn};
 ghost use Rattle.reader.specs.Answer.{shown};
 use record::HEAD;
 use record::HOUSE;
@@ -18,12 +20,27 @@ use ship::Ship;
 use ship::checks;
 use ship::refusal::Refusal;
 use ship::refusal::Verdict;
+use units::Ordinate;
 use units::Span;
 
 // A ship, or the refusal with a ship of zeros beside it.
 pub struct Answer {
     pub verdict: Verdict,
     pub ship: Ship,
+}
+
+// The ordinates of sheer, from the word of the first four and that of the last two.
+fn sheer_in(four: u64, two: u64) -> [Ordinate; 6]
+    ensures { λ r. ⌜ r ≡ sheerIn four two ⌝ }
+{
+    [
+        record::ordinate_in(four >> after::AFTER_END),
+        record::ordinate_in(four >> after::AFTER_SIXTH),
+        record::ordinate_in(four >> after::AFTER_THIRD),
+        record::ordinate_in(four),
+        record::ordinate_in(two >> after::FORWARD_SIXTH),
+        record::ordinate_in(two >> after::FORWARD_END),
+    ]
 }
 
 // The head of a record, from six words.
@@ -36,14 +53,8 @@ fn head_in(s: &[u8]) -> Head
     let fullness = bits::word(&s[7..12]);
     let four = bits::word(&s[12..19]);
     let two = bits::word(&s[19..25]);
-    let sheer = [
-        record::ordinate_in(four >> after::AFTER_END),
-        record::ordinate_in(four >> after::AFTER_SIXTH),
-        record::ordinate_in(four >> after::AFTER_THIRD),
-        record::ordinate_in(four),
-        record::ordinate_in(two >> after::FORWARD_SIXTH),
-        record::ordinate_in(two >> after::FORWARD_END),
-    ];
+    let immersion = bits::word(&s[25..27]);
+    let sheer = sheer_in(four, two);
     let moulded = sizes % range::MOULDED_FIRST * range::MOULDED_LAST
         + (fullness >> after::MOULDED_LAST);
     Head {
@@ -58,7 +69,7 @@ fn head_in(s: &[u8]) -> Head
         waterplane: fullness % range::WATERPLANE,
         sheer,
         displacement: two % range::DISPLACEMENT,
-        immersion: bits::word(&s[25..27]),
+        immersion,
     }
 }
 
@@ -159,6 +170,21 @@ fn refuse(r: Refusal) -> Answer
     }
 }
 
+// Checks 7 to 11.
+fn judge(x: Ship) -> Answer
+    requires { ⌜ x .n ≤ 8 ⌝ }
+    ensures { λ r. ⌜ shown r ≡ readingOf (first (shipLines x)) x ⌝ }
+{
+    let v = checks::of_ship(x);
+    match v {
+        Verdict::Accepted => Answer {
+            verdict: Verdict::Accepted,
+            ship: x,
+        },
+        Verdict::Refused(r) => refuse(r),
+    }
+}
+
 // Checks 6 to 11 on bytes whose head is right.
 fn read_ship(s: &[u8], h: Head) -> Answer
     requires { ⌜ (h ≡ headIn (now s)) × (27 ≤ length (now s)) × (first (headLines h (length (now s))) ≡ accepted) ⌝ }
@@ -169,15 +195,7 @@ fn read_ship(s: &[u8], h: Head) -> Answer
         return refuse(Refusal::SpareBit);
     }
     let places = all.places;
-    let x = ship_of(h, places);
-    let v = checks::of_ship(x);
-    match v {
-        Verdict::Accepted => Answer {
-            verdict: Verdict::Accepted,
-            ship: x,
-        },
-        Verdict::Refused(r) => refuse(r),
-    }
+    judge(ship_of(h, places))
 }
 
 // Reads a record: refusals 1 to 11, in the table's order.

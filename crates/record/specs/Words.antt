@@ -1,6 +1,8 @@
 -- The head as six words of whole bytes, as reader and writer take it: the widths of the fields in each but the last, which is the immersion.
-use Prim.Native.Nat.{ℕ}
+use Prim.Native.Nat.{ℕ, _/_, _^_}
 use mathlib.Core.List.{List, [], _∷_}
+use Rattle.units.specs.declared.Ordinate.{Ordinate}
+use Rattle.record.specs.Layout.{ordinateIn}
 
 -- version, type, houses n, spare
 abbrev pub first : List ℕ
@@ -21,3 +23,9 @@ four = 14 ∷ 14 ∷ 14 ∷ 14 ∷ []
 -- the last two, and the displacement
 abbrev pub two : List ℕ
 two = 14 ∷ 14 ∷ 20 ∷ []
+
+-- the ordinates in these two words
+abbrev pub sheerIn : ℕ → ℕ → List Ordinate
+sheerIn a b =
+    ordinateIn (a / 2 ^ 42) ∷ ordinateIn (a / 2 ^ 28) ∷ ordinateIn (a / 2 ^ 14) ∷ ordinateIn a
+    ∷ ordinateIn (b / 2 ^ 34) ∷ ordinateIn (b / 2 ^ 20) ∷ []

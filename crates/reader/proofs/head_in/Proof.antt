@@ -1,6 +1,5 @@
 -- Six words, whose pieces are the fields.
-use Prim.Native.Nat.{ℕ, _+_, _*_, _/_, _%_, _^_, _<_}
-use mathlib.Core.List.{[], _∷_}
+use Prim.Native.Nat.{ℕ, _<_}
 use mathlib.Core.Path.{sym, _∙_}
 use lib.ListN.{getD}
 use denote.Ref.{now}
@@ -34,29 +33,23 @@ head-in-spec =
     (λ c. search needs)
     (λ c. search needs)
     (λ c κs. search needs)
-    (λ c κs. search needs)
-    (λ c κs. search needs)
-    (λ c κs. search needs)
-    (λ c κs. search needs)
-    (λ c κs. search needs)
-    (λ c κs. search needs)
-    (λ c. search needs)
-    (λ c. search needs)
     (λ c. search needs)
     (λ c. search needs)
     (λ c. search needs)
     (λ c κs. search needs)
+    (λ c κs. search needs)
+    (λ c. search needs)
+    (λ c. search needs)
     (λ c.
-    let o = c .before .before in
-    let n = o .before .before .before in
-    let e = n .before .before .before in
+    let f = c .before in
+    let e = f .before .before in
     let d = e .before .before in
     let x = d .before .before in
     let b = x .before .before in
     let a = b .before .before in
     let s = now (a .before .before .before .args .s) in
     let k : (i : ℕ) → getD s i 0 < 256 = λ i. omega (arith, a .before .before .shared-slice-known .given i) in
-    let h = headOfWords (a .word .result) (b .word2 .result) (x .word3 .result) (d .word4 .result) (e .word5 .result) (c .word6 .result) in
+    let h = headOfWords (a .word .result) (b .word2 .result) (x .word3 .result) (d .word4 .result) (e .word5 .result) (f .word6 .result) in
     (λ i. record {
       version = h .version;
       kind = h .kind;
@@ -67,11 +60,9 @@ head-in-spec =
       moulded = h .moulded;
       block = h .block;
       waterplane = h .waterplane;
-      sheer =
-          record { 0 = n .before .before .ordinate-in .ensures i } ∷ record { 0 = n .before .ordinate-in2 .ensures i } ∷ record { 0 = n .ordinate-in3 .ensures i }
-          ∷ record { 0 = o .before .before .ordinate-in4 .ensures i } ∷ record { 0 = o .before .ordinate-in5 .ensures i } ∷ record { 0 = o .ordinate-in6 .ensures i } ∷ [];
+      sheer = c .sheer-in .ensures i;
       displacement = h .displacement;
       immersion = h .immersion;
     })
-    ∙ (λ i. headOfWords (a .word .ensures i) (b .word2 .ensures i) (x .word3 .ensures i) (d .word4 .ensures i) (e .word5 .ensures i) (c .word6 .ensures i))
+    ∙ (λ i. headOfWords (a .word .ensures i) (b .word2 .ensures i) (x .word3 .ensures i) (d .word4 .ensures i) (e .word5 .ensures i) (f .word6 .ensures i))
     ∙ sym (head-words s k (omega arith))))

@@ -1,35 +1,41 @@
 -- Nothing is lost between a ship of the steps and a flat one: a ship comes back whole, and of a flat ship that is accepted every station and ordinate is kept.
-use Prim.Native.Nat.{ℕ, suc, _+_, _-_, _<_}
-use mathlib.Core.Bool.{Bool, true, false, not}
+use Prim.Native.Nat.{ℕ, suc, _+_, _-_, _≤_, _<_}
+use mathlib.Core.Bool.{Bool, true, false, true≢false, not, _&&_}
 use mathlib.Core.List.{List, [], _∷_, map}
-use mathlib.Core.Path.{_≡_, refl, ap, ap₂}
+use mathlib.Core.Path.{_≡_, refl, sym, ap, ap₂, _∙_}
 use native.Mathlib.Omega.{arith}
 use native.Mathlib.Decide.{decLt}
-use borrow.Author.Tests.{lt-ltb, le-ltb}
-use lib.Dec.{eqb}
-use lib.IntN.{ℤ, pos, negsuc}
+use borrow.Author.Tests.{lt-ltb, le-ltb, ltb-false}
+use lib.Dec.{eqb, ltb}
+use lib.IntN.{ℤ, pos, negsuc, natAbs, _-ℤ_}
 use Rattle.whole.specs.Pick.{pick}
-use Rattle.units.specs.Datum.{datum, mmOf}
+use Rattle.whole.specs.Sign.{negative}
+use Rattle.whole.proofs.Pick.{pick-false}
+use Rattle.units.specs.declared.Ordinate.{Ordinate}
+use Rattle.units.specs.Datum.{datum, lift, countedFrom, mmOf, stationAt, sheerOf, ordinateAt}
 use Rattle.record.specs.Layout.{bit}
 use Rattle.ship.specs.declared.House.{House}
 use Rattle.ship.specs.declared.Ship.{Ship}
-use Rattle.ship.specs.Vessel.{lift}
 use Rattle.ship.specs.Good.{GoodHouse}
 use Rattle.face.specs.declared.flat.FlatHouse.{FlatHouse}
-use Rattle.face.specs.Flat.{ordinateOf, houseOf, shipOf, stationAt, loweredBy, ordinateAt, houseFrom, shipFrom}
+use Rattle.face.specs.Flat.{sheerMm, houseOf, shipOf, ordinateFrom, houseFrom, shipFrom}
 
 -- ---- there and back
-station-back : (s : ℕ) → stationAt (mmOf s) ≡ s
-unfolding stationAt pick
-station-back s = elim (decLt s datum) [ yes t ↦ rw (lt-ltb s datum t) (omega arith) | no t ↦ rw (le-ltb s datum (omega arith)) (omega arith) ]
+-- a number counted from a zero
+from-back : (z s : ℕ) → countedFrom z (pos s -ℤ pos z) ≡ s
+unfolding countedFrom pick
+from-back z s = elim (decLt s z) [ yes t ↦ rw (lt-ltb s z t) (omega arith) | no t ↦ rw (le-ltb s z (omega arith)) (omega arith) ]
 
-ordinate-back : (s : ℕ) → ordinateAt (ordinateOf s) ≡ s
-unfolding ordinateAt ordinateOf loweredBy pick
-ordinate-back s =
-    elim (decLt s lift) [
-      | yes t ↦ rw (lt-ltb s lift t, le-ltb lift (suc (lift - suc s)) (omega arith)) (omega arith)
-      | no t ↦ rw (le-ltb s lift (omega arith)) (omega arith)
-    ]
+ordinate-back : (s : ℕ) → ordinateAt (sheerOf s) ≡ s
+unfolding ordinateAt
+ordinate-back s = pick-false _ _ _ (in-bits s) ∙ from-back lift s
+  where
+    in-bits : (s : ℕ) → (negative (sheerOf s) && ltb lift (natAbs (sheerOf s))) ≡ false
+    in-bits s =
+        elim (decLt s lift) [
+          | yes t ↦ rw (lt-ltb s lift t, le-ltb lift (suc (lift - suc s)) (omega arith)) refl
+          | no t ↦ rw (le-ltb s lift (omega arith)) refl
+        ]
 
 flag-back : (b : Bool) → not (eqb (bit b) 0) ≡ b
 flag-back true = refl
@@ -41,14 +47,14 @@ house-back h =
     λ i. record {
       enclosed = flag-back (h .enclosed) i;
       quarterdeck = flag-back (h .quarterdeck) i;
-      aft = record { 0 = station-back (h .aft .0) i };
-      fore = record { 0 = station-back (h .fore .0) i };
+      aft = record { 0 = from-back datum (h .aft .0) i };
+      fore = record { 0 = from-back datum (h .fore .0) i };
       height = h .height;
     }
 
-sheer-back : (s : List ℕ) → map ordinateAt (map ordinateOf s) ≡ s
+sheer-back : (s : List Ordinate) → map ordinateFrom (map sheerMm s) ≡ s
 sheer-back [] = refl
-sheer-back (n ∷ ns) = ap₂ (λ (m : ℕ) (ms : List ℕ). m ∷ ms) (ordinate-back n) (sheer-back ns)
+sheer-back (o ∷ os) = λ i. record { 0 = ordinate-back (o .0) i } ∷ sheer-back os i
 
 houses-back : (hs : List House) → map houseFrom (map houseOf hs) ≡ hs
 houses-back [] = refl
@@ -72,20 +78,30 @@ ship-back x =
     }
 
 -- ---- what is accepted was meant
+from-kept : (z : ℕ) (mm : ℤ) → (negative mm ≡ true → natAbs mm ≤ z) → pos (countedFrom z mm) -ℤ pos z ≡ mm
+unfolding countedFrom pick
+from-kept z (pos n) h = rw (le-ltb (z + n) z (omega arith)) (ap pos (omega arith))
+from-kept z (negsuc n) h = let k : suc n ≤ z = h refl in rw (lt-ltb (z - suc n) z (omega arith)) (ap negsuc (omega arith))
+
+-- a station above the datum
 station-kept : (mm : ℤ) → 0 < stationAt mm → mmOf (stationAt mm) ≡ mm
-unfolding stationAt pick
-station-kept (pos n) h = rw (le-ltb (datum + n) datum (omega arith)) (ap pos (omega arith))
-station-kept (negsuc n) h = rw (lt-ltb (datum - suc n) datum (omega arith)) (ap negsuc (omega arith))
+station-kept mm h = from-kept datum mm (λ e. omega (arith, near mm e h))
+  where
+    near : (mm : ℤ) → negative mm ≡ true → 0 < stationAt mm → natAbs mm ≤ datum
+    unfolding countedFrom pick
+    near (pos n) e h = absurd (true≢false (sym e))
+    near (negsuc n) e h = omega arith
 
 pub house-kept : (l : ℕ) (h : FlatHouse) → GoodHouse l (houseFrom h) → (mmOf (houseFrom h .aft .0) ≡ h .aft) × (mmOf (houseFrom h .fore .0) ≡ h .fore)
 unfolding houseFrom
 house-kept l h g = (station-kept (h .aft) (omega (arith, g .aft-most)), station-kept (h .fore) (omega (arith, g .ahead)))
 
-pub ordinate-kept : (mm : ℤ) → ordinateAt mm < 16384 → ordinateOf (ordinateAt mm) ≡ mm
-unfolding ordinateAt ordinateOf loweredBy pick
-ordinate-kept (pos n) h = rw (le-ltb (lift + n) lift (omega arith)) (ap pos (omega arith))
-ordinate-kept (negsuc n) h =
-    elim (decLt lift (suc n)) [
-      | yes t ↦ absurd (let k : lift + lift < 16384 = rw (lt-ltb lift (suc n) t) at h in omega arith)
-      | no t ↦ rw (le-ltb lift (suc n) (omega arith), lt-ltb (lift - suc n) lift (omega arith)) (ap negsuc (omega arith))
-    ]
+pub ordinate-kept : (mm : ℤ) → ordinateAt mm < lift + lift → sheerOf (ordinateAt mm) ≡ mm
+unfolding ordinateAt
+ordinate-kept mm h = go (negative mm && ltb lift (natAbs mm)) refl h
+  where
+    go : (b : Bool) → (negative mm && ltb lift (natAbs mm)) ≡ b → pick b (lift + lift) (countedFrom lift mm) < lift + lift
+        → sheerOf (pick b (lift + lift) (countedFrom lift mm)) ≡ mm
+    unfolding pick
+    go true e h = absurd (omega arith)
+    go false e h = from-kept lift mm (λ n. ltb-false lift (natAbs mm) (ap (λ (c : Bool). c && ltb lift (natAbs mm)) (sym n) ∙ e))

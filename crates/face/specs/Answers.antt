@@ -9,7 +9,7 @@ use Rattle.ship.specs.Refusals.{Paper}
 use Rattle.record.specs.Reading.{Reading}
 use Rattle.mark.specs.declared.Marks.{Marks}
 use Rattle.mark.specs.Exact.{Holds}
-use Rattle.marks.specs.Marks.{Sheet}
+use Rattle.mark.specs.Others.{Sheet}
 use Rattle.marks.specs.Exact.{exactSummerOf}
 use Rattle.poop.specs.Question.{Reply}
 use Rattle.face.specs.declared.MarksAnswer.{MarksAnswer}

@@ -1,23 +1,21 @@
 -- A ship in 01's own signed millimetres and numbers, as the calls for C have it, and the ship of the steps, whose stations and sheer are lifted above zero.
-use Prim.Native.Nat.{ℕ, _+_, _-_, _<_}
+use Prim.Native.Nat.{ℕ, _+_, _<_}
 use mathlib.Core.Bool.{not}
 use mathlib.Core.List.{List, map}
-use lib.Dec.{eqb, ltb}
-use lib.IntN.{ℤ, pos, natAbs, _-ℤ_}
-use lib.ListN.{getD}
-use Rattle.whole.specs.Pick.{pick}
-use Rattle.whole.specs.Sign.{negative}
-use Rattle.units.specs.Datum.{datum, mmOf}
+use lib.Dec.{eqb}
+use lib.IntN.{ℤ}
+use Rattle.units.specs.declared.Ordinate.{Ordinate}
+use Rattle.units.specs.Datum.{datum, lift, mmOf, stationAt, sheerOf, ordinateAt, sheerAt}
 use Rattle.record.specs.Layout.{bit}
 use Rattle.ship.specs.declared.House.{House}
 use Rattle.ship.specs.declared.Ship.{Ship}
-use Rattle.ship.specs.Vessel.{lift, houseAt}
+use Rattle.ship.specs.Vessel.{houseAt}
 use Rattle.face.specs.declared.flat.FlatHouse.{FlatHouse}
 use Rattle.face.specs.declared.flat.FlatShip.{FlatShip}
 
 -- ---- to 01's terms: an ordinate of sheer, a house, a ship
-unfoldable pub ordinateOf : ℕ → ℤ
-ordinateOf s = pos s -ℤ pos lift
+abbrev pub sheerMm : Ordinate → ℤ
+sheerMm o = sheerOf (o .0)
 
 unfoldable pub houseOf : House → FlatHouse
 houseOf h = record {
@@ -37,22 +35,15 @@ shipOf x = record {
   moulded = x .moulded .0;
   block = x .block;
   waterplane = x .waterplane;
-  sheer = map ordinateOf (x .sheer);
+  sheer = map sheerMm (x .sheer);
   displacement = x .displacement;
   immersion = x .immersion;
   houses = map houseOf (x .houses);
 }
 
--- ---- from 01's terms. What lies abaft the datum counts as at it, and 9 refuses either
-unfoldable pub stationAt : ℤ → ℕ
-stationAt mm = pick (negative mm) (datum - natAbs mm) (datum + natAbs mm)
-
--- an ordinate too low for its bits counts as one too high for them, and 7 refuses either
-unfoldable pub loweredBy : ℕ → ℕ
-loweredBy size = pick (ltb lift size) (lift + lift) (lift - size)
-
-unfoldable pub ordinateAt : ℤ → ℕ
-ordinateAt mm = pick (negative mm) (loweredBy (natAbs mm)) (lift + natAbs mm)
+-- ---- from 01's terms
+abbrev pub ordinateFrom : ℤ → Ordinate
+ordinateFrom mm = record { 0 = ordinateAt mm }
 
 unfoldable pub houseFrom : FlatHouse → House
 houseFrom h = record {
@@ -72,7 +63,7 @@ shipFrom x = record {
   moulded = record { 0 = x .moulded };
   block = x .block;
   waterplane = x .waterplane;
-  sheer = map ordinateAt (x .sheer);
+  sheer = map ordinateFrom (x .sheer);
   displacement = x .displacement;
   immersion = x .immersion;
   houses = map houseFrom (x .houses);
@@ -80,11 +71,11 @@ shipFrom x = record {
 
 -- ---- stations and ordinates that a signed number holds with ease
 pub record Near (h : House) : Type 0 where
-  pub aft : h .aft .0 < 2097152
-  pub fore : h .fore .0 < 2097152
+  pub aft : h .aft .0 < datum + datum
+  pub fore : h .fore .0 < datum + datum
 
 pub record NearHouses (hs : List House) : Type 0 where
   pub each : (k : ℕ) → Near (houseAt hs k)
 
-pub record NearSheer (s : List ℕ) : Type 0 where
-  pub each : (k : ℕ) → getD s k 0 < 16384
+pub record NearSheer (o : List Ordinate) : Type 0 where
+  pub each : (k : ℕ) → sheerAt o k < lift + lift

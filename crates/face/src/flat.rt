@@ -3,12 +3,12 @@ ghost use mathlib.Core.Path.{_≡_};
 ghost use Prim.Native.Nat.{_<_};
 ghost use mathlib.Core.List.{map};
 ghost use Rattle.record.specs.Layout.{bit};
-ghost use Rattle.face.specs.Flat.{ordinateOf, houseOf, shipOf, stationAt, loweredBy, ordinateAt, houseFrom, shipFrom, Near, NearHouses, NearSheer};
+ghost use Rattle.face.specs.Flat.{sheerMm, houseOf, shipOf, ordinateFrom, houseFrom, shipFrom, Near, NearHouses, NearSheer};
 use ship::House;
 use ship::Ship;
-use units::AP;
+use units::LIFT;
+use units::Ordinate;
 use units::Span;
-use units::Station;
 
 // Stations in mm forward of the after perpendicular, below zero abaft it. Each flag is 0 for no, and any other number for yes.
 #[repr(C)]
@@ -49,8 +49,8 @@ fn of_house(h: House) -> FlatHouse
 {
     let enclosed = flag(h.enclosed);
     let quarterdeck = flag(h.quarterdeck);
-    let aft = whole::minus(h.aft.0, AP);
-    let fore = whole::minus(h.fore.0, AP);
+    let aft = units::mm_of_station(h.aft);
+    let fore = units::mm_of_station(h.fore);
     FlatHouse {
         enclosed,
         quarterdeck,
@@ -82,15 +82,15 @@ fn of_houses(hs: [House; 8]) -> [FlatHouse; 8]
     flat
 }
 
-// Six ordinates that are lifted by 8192 mm.
-fn of_sheer(s: [u64; 6]) -> [i64; 6]
+fn of_sheer(s: [Ordinate; 6]) -> [i64; 6]
     requires { ⌜ NearSheer s ⌝ }
-    ensures { λ r. ⌜ r ≡ map ordinateOf s ⌝ }
+    ensures { λ r. ⌜ r ≡ map sheerMm s ⌝ }
 {
     let mut mm = [0i64; 6];
     let mut k = 0;
     while k < 6 {
-        mm[k] = whole::minus(s[k], 8192);
+        let o = s[k];
+        mm[k] = units::mm_of_ordinate(o);
         k += 1;
     }
     mm
@@ -120,46 +120,16 @@ pub fn of_ship(x: Ship) -> FlatShip
 }
 
 // ---- to the steps' ship
-fn station(mm: i64) -> u64
-    ensures { λ r. ⌜ r ≡ stationAt mm ⌝ }
-{
-    let size = whole::size(mm);
-    if whole::below_zero(mm) {
-        return whole::less(AP, size);
-    }
-    AP + size
-}
-
-// The ordinate of sheer that lies so far below zero.
-fn beneath(size: u64) -> u64
-    ensures { λ r. ⌜ r ≡ loweredBy size ⌝ }
-{
-    if 8192 < size {
-        return 16384;
-    }
-    8192 - size
-}
-
-fn ordinate(mm: i64) -> u64
-    ensures { λ r. ⌜ r ≡ ordinateAt mm ⌝ }
-{
-    let size = whole::size(mm);
-    if whole::below_zero(mm) {
-        return beneath(size);
-    }
-    8192 + size
-}
-
 fn to_house(h: FlatHouse) -> House
     ensures { λ r. ⌜ r ≡ houseFrom h ⌝ }
 {
-    let aft = station(h.aft);
-    let fore = station(h.fore);
+    let aft = units::station_of_mm(h.aft);
+    let fore = units::station_of_mm(h.fore);
     House {
         enclosed: h.enclosed != 0,
         quarterdeck: h.quarterdeck != 0,
-        aft: Station(aft),
-        fore: Station(fore),
+        aft,
+        fore,
         height: Span(h.height),
     }
 }
@@ -179,13 +149,15 @@ fn to_houses(flat: [FlatHouse; 8]) -> [House; 8]
     hs
 }
 
-fn to_sheer(mm: [i64; 6]) -> [u64; 6]
-    ensures { λ r. ⌜ r ≡ map ordinateAt mm ⌝ }
+fn to_sheer(mm: [i64; 6]) -> [Ordinate; 6]
+    ensures { λ r. ⌜ r ≡ map ordinateFrom mm ⌝ }
 {
-    let mut s = [0u64; 6];
+    let level = Ordinate(LIFT);
+    let mut s = [level; 6];
     let mut k = 0;
     while k < 6 {
-        s[k] = ordinate(mm[k]);
+        let o = units::ordinate_of_mm(mm[k]);
+        s[k] = o;
         k += 1;
     }
     s

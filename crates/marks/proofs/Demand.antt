@@ -17,7 +17,7 @@ use Rattle.ship.specs.declared.Ship.{Ship}
 use Rattle.ship.specs.Vessel.{housesOf}
 use Rattle.ship.specs.Refusals.{Paper, first}
 use Rattle.ship.specs.Checks.{shipLines}
-use Rattle.ship.proofs.Lines.{all-pass, all-pass-split, first-passed}
+use Rattle.ship.proofs.Lines.{AllPass, all-pass, all-pass-split, first-passed}
 use Rattle.ship.proofs.Accepted.{good}
 use Rattle.record.specs.Layout.{shipIn}
 use Rattle.record.specs.Reading.{frameLines}
@@ -32,10 +32,10 @@ use Rattle.sheer.proofs.Bound.{sheer-within}
 use Rattle.bow.proofs.Bound.{bow-within}
 use Rattle.mark.specs.declared.Answer.{Answer}
 use Rattle.mark.specs.declared.Answer.the-variants.{Given, Refused}
-use Rattle.mark.specs.Others.{Sheet, markLines, sheet, sheetAt}
+use Rattle.mark.specs.Others.{Sheet, markLines, sixMarks, sheet, sheetAt}
 use Rattle.mark.specs.Exact.{Holds}
 use Rattle.mark.proofs.Bound.{summer-holds}
-use Rattle.mark.proofs.OneToOne.{given-summer}
+use Rattle.mark.proofs.OneToOne.{given-marks}
 use Rattle.marks.specs.Basis.{Basis, basisOf}
 use Rattle.marks.specs.Steps.{Sound, typeB, basis, coveredS, effectiveE, forecastleHouse, coverReach, addedTo, takenFrom, bowOf, summerOf}
 use Rattle.marks.specs.Exact.{exactE, exactAddedTo, exactTakenFrom, exactBowOf, exactSummerOf, Bounded}
@@ -69,20 +69,25 @@ summer-bounded x k =
 
 -- ---- of an answer, whatever the call: the equation of its contract is enough
 pub bounded : (x : Ship) → Sound x → (r : Answer) → sheet r ≡ sheetFor x → Bounded r x
-unfolding sheetFor sheetAt
-bounded x k (Given m) e = rw (given-summer (first (markLines (particularsOf x) (summerOf x))) (particularsOf x) (summerOf x) m e .1) (summer-bounded x k)
+unfolding sheetFor sheetAt sixMarks
+bounded x k (Given m) e = rw (given-marks (first (markLines (particularsOf x) (summerOf x))) (sixMarks (particularsOf x) (summerOf x)) m e .1) (summer-bounded x k)
 bounded x k (Refused r) e = tt
+
+-- bytes whose lines 1 to 11 all pass are of a ship that the steps can take
+pub sound : (s : List ℕ) → AllPass (frameLines s) → AllPass (shipLines (shipIn s)) → Sound (shipIn s)
+unfolding shipIn
+sound s a b =
+    let f = frame-passed s a in
+    record { type = f .type; few = f .few; good = good (shipIn s) (ap (λ (t : Paper). t .number) (first-passed (shipLines (shipIn s)) b)) }
 
 -- for every byte string for which the marks call gives marks
 pub bounded-in : (s : List ℕ) (r : Answer) → sheet r ≡ sheetIn s → Bounded r (shipIn s)
-unfolding sheetIn shipIn
+unfolding sheetIn sixMarks
 bounded-in s (Given m) e =
     let x = shipIn s in
     let more = markLines (particularsOf x) (summerOf x) in
     let v : first (frameLines s ++ (shipLines x ++ more)) .number ≡ 0 = sym (ap (λ (t : Sheet). t .verdict .number) e) in
     let p = all-pass-split (frameLines s) (shipLines x ++ more) (all-pass (frameLines s ++ (shipLines x ++ more)) (omega arith) v) in
     let q = all-pass-split (shipLines x) more (p .1) in
-    let f = frame-passed s (p .0) in
-    let k : Sound x = record { type = f .type; few = f .few; good = good x (ap (λ (t : Paper). t .number) (first-passed (shipLines x) (q .0))) } in
-    rw (given-summer (first (frameLines s ++ (shipLines x ++ more))) (particularsOf x) (summerOf x) m e .1) (summer-bounded x k)
+    rw (given-marks (first (frameLines s ++ (shipLines x ++ more))) (sixMarks (particularsOf x) (summerOf x)) m e .1) (summer-bounded x (sound s (p .0) (q .0)))
 bounded-in s (Refused r) e = tt

@@ -11,8 +11,8 @@ use Rattle.ship.proofs.OneToOne.{number-above-0}
 use Rattle.mark.specs.declared.Particulars.{Particulars}
 use Rattle.mark.specs.declared.Answer.{Answer}
 use Rattle.mark.specs.declared.Answer.the-variants.{Given, Refused}
-use Rattle.mark.specs.Others.{Sheet, sheet, sheetAt, markLines}
-use Rattle.mark.proofs.OneToOne.{given-summer}
+use Rattle.mark.specs.Others.{Sheet, sheet, sheetAt, markLines, sixMarks}
+use Rattle.mark.proofs.OneToOne.{given-marks}
 use Rattle.poop.specs.Poop.{within}
 use Rattle.poop.specs.Standing.{markedOn}
 use Rattle.poop.proofs.trial.marked.Statement.{statement}
@@ -24,9 +24,9 @@ says (Given m) wish = leb (m .s) wish
 says (Refused r) wish = false
 
 told : (a : Answer) (p : Particulars) (S wish : ℕ) → sheet a ≡ sheetAt p S → says a wish ≡ within (markLines p S) S wish
-unfolding says within sheetAt
+unfolding says within sheetAt sixMarks
 told (Given m) p S wish e =
-    let g = given-summer (first (markLines p S)) p S m e in
+    let g = given-marks (first (markLines p S)) (sixMarks p S) m e in
     rw (g .0, g .1) refl
 told (Refused r) p S wish e =
     let n : eqb (numberOf r) 0 ≡ false = ne-eqb (numberOf r) 0 (λ z. omega (arith, number-above-0 r)) in

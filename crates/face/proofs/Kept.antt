@@ -21,14 +21,14 @@ use Rattle.face.specs.declared.flat.FlatHouse.{FlatHouse}
 use Rattle.face.specs.Flat.{sheerMm, houseOf, shipOf, ordinateFrom, houseFrom, shipFrom}
 
 -- ---- there and back
--- a number counted from a zero
-from-back : (z s : ℕ) → countedFrom z (pos s -ℤ pos z) ≡ s
+-- a number counted from a zero, which lies above the number 0
+from-back : (z s : ℕ) → countedFrom (suc z) (pos s -ℤ pos (suc z)) ≡ s
 unfolding countedFrom pick
-from-back z s = elim (decLt s z) [ yes t ↦ rw (lt-ltb s z t) (omega arith) | no t ↦ rw (le-ltb s z (omega arith)) (omega arith) ]
+from-back z s = elim (decLt s (suc z)) [ yes t ↦ rw (lt-ltb s (suc z) t) (omega arith) | no t ↦ rw (le-ltb s (suc z) (omega arith)) (omega arith) ]
 
 ordinate-back : (s : ℕ) → ordinateAt (sheerOf s) ≡ s
 unfolding ordinateAt
-ordinate-back s = pick-false _ _ _ (in-bits s) ∙ from-back lift s
+ordinate-back s = pick-false _ _ _ (in-bits s) ∙ from-back (lift - 1) s
   where
     in-bits : (s : ℕ) → (negative (sheerOf s) && ltb lift (natAbs (sheerOf s))) ≡ false
     in-bits s =
@@ -47,8 +47,8 @@ house-back h =
     λ i. record {
       enclosed = flag-back (h .enclosed) i;
       quarterdeck = flag-back (h .quarterdeck) i;
-      aft = record { 0 = from-back datum (h .aft .0) i };
-      fore = record { 0 = from-back datum (h .fore .0) i };
+      aft = record { 0 = from-back (datum - 1) (h .aft .0) i };
+      fore = record { 0 = from-back (datum - 1) (h .fore .0) i };
       height = h .height;
     }
 
@@ -78,30 +78,29 @@ ship-back x =
     }
 
 -- ---- what is accepted was meant
-from-kept : (z : ℕ) (mm : ℤ) → (negative mm ≡ true → natAbs mm ≤ z) → pos (countedFrom z mm) -ℤ pos z ≡ mm
+from-kept : (z : ℕ) (mm : ℤ) → (negative mm ≡ true → natAbs mm ≤ suc z) → pos (countedFrom (suc z) mm) -ℤ pos (suc z) ≡ mm
 unfolding countedFrom pick
-from-kept z (pos n) h = rw (le-ltb (z + n) z (omega arith)) (ap pos (omega arith))
-from-kept z (negsuc n) h = let k : suc n ≤ z = h refl in rw (lt-ltb (z - suc n) z (omega arith)) (ap negsuc (omega arith))
+from-kept z (pos n) h = rw (le-ltb (suc z + n) (suc z) (omega arith)) (ap pos (omega arith))
+from-kept z (negsuc n) h = let k : suc n ≤ suc z = h refl in rw (lt-ltb (suc z - suc n) (suc z) (omega arith)) (ap negsuc (omega arith))
 
 -- a station above the datum
+near-datum : (mm : ℤ) → 0 < stationAt mm → negative mm ≡ true → natAbs mm ≤ datum
+unfolding countedFrom pick
+near-datum (pos n) h e = absurd (true≢false (sym e))
+near-datum (negsuc n) h e = omega arith
+
 station-kept : (mm : ℤ) → 0 < stationAt mm → mmOf (stationAt mm) ≡ mm
-station-kept mm h = from-kept datum mm (λ e. omega (arith, near mm e h))
-  where
-    near : (mm : ℤ) → negative mm ≡ true → 0 < stationAt mm → natAbs mm ≤ datum
-    unfolding countedFrom pick
-    near (pos n) e h = absurd (true≢false (sym e))
-    near (negsuc n) e h = omega arith
+station-kept mm h = from-kept (datum - 1) mm (near-datum mm h)
 
 pub house-kept : (l : ℕ) (h : FlatHouse) → GoodHouse l (houseFrom h) → (mmOf (houseFrom h .aft .0) ≡ h .aft) × (mmOf (houseFrom h .fore .0) ≡ h .fore)
 unfolding houseFrom
 house-kept l h g = (station-kept (h .aft) (omega (arith, g .aft-most)), station-kept (h .fore) (omega (arith, g .ahead)))
 
 pub ordinate-kept : (mm : ℤ) → ordinateAt mm < lift + lift → sheerOf (ordinateAt mm) ≡ mm
-unfolding ordinateAt
+unfolding ordinateAt pick
 ordinate-kept mm h = go (negative mm && ltb lift (natAbs mm)) refl h
   where
     go : (b : Bool) → (negative mm && ltb lift (natAbs mm)) ≡ b → pick b (lift + lift) (countedFrom lift mm) < lift + lift
         → sheerOf (pick b (lift + lift) (countedFrom lift mm)) ≡ mm
-    unfolding pick
     go true e h = absurd (omega arith)
-    go false e h = from-kept lift mm (λ n. ltb-false lift (natAbs mm) (ap (λ (c : Bool). c && ltb lift (natAbs mm)) (sym n) ∙ e))
+    go false e h = from-kept (lift - 1) mm (λ n. ltb-false lift (natAbs mm) (ap (λ (c : Bool). c && ltb lift (natAbs mm)) (sym n) ∙ e))

@@ -16,7 +16,7 @@ use Rattle.ship.specs.Vessel.{noHouse, noShip, houseAt}
 use Rattle.ship.specs.Refusals.{first}
 use Rattle.ship.specs.Checks.{shipLines}
 use Rattle.ship.proofs.Lines.{all-pass, all-pass-split}
-use Rattle.record.specs.Layout.{houseIn, housesIn, placesIn, shipIn}
+use Rattle.record.specs.Layout.{headIn, houseIn, housesIn, placesIn, shipIn}
 use Rattle.record.specs.Reading.{frameLines, readingIn}
 use Rattle.record.specs.Writing.{writeLines, writingOf}
 use Rattle.mark.specs.declared.Marks.{Marks}
@@ -98,7 +98,7 @@ low (o ∷ os) a (suc k) = low os (a .1) k
 
 -- no station lies further from the datum than its bits reach, and no ordinate from its lift
 near-ship : (s : List ℕ) → NearSheer (shipIn s .sheer) × NearHouses (shipIn s .houses)
-unfolding shipIn placesIn
+unfolding shipIn headIn placesIn
 near-ship s =
     let n = shipIn s .n in
     (record { each = low (shipIn s .sheer) (omega arith) }, record { each = each (placesIn n s) (all-both (housesIn n (drop 27 s)) (replicate (8 - n) noHouse) (all-in n (drop 27 s)) (all-none (8 - n))) })

@@ -6,11 +6,12 @@ use Rattle.ship.specs.Refusals.{numberOf}
 use Rattle.ship.proofs.OneToOne.{number-above-0}
 use Rattle.record.specs.Layout.{shipIn}
 use Rattle.mark.specs.Exact.{Holds}
-use Rattle.marks.specs.declared.Answer.{Answer}
-use Rattle.marks.specs.declared.Answer.the-variants.{Given, Refused}
+use Rattle.mark.specs.declared.Answer.{Answer}
+use Rattle.mark.specs.declared.Answer.the-variants.{Given, Refused}
+use Rattle.mark.specs.Others.{sheet}
 use Rattle.marks.specs.Exact as Exact
 use Rattle.marks.specs.Exact.{exactSummerOf}
-use Rattle.marks.specs.Marks.{sheet, sheetIn}
+use Rattle.marks.specs.Marks.{sheetIn}
 use Rattle.face.specs.declared.MarksAnswer.{MarksAnswer}
 use Rattle.face.specs.Answers.{fromSheet}
 use Rattle.face.proofs.Room.{small-in}

@@ -23,8 +23,8 @@ of-house-spec =
     let q = c .before .before in
     let g = q .before in
     let h = g .before .args .h in
-    let ae : toZ w64 (ofZ w64 (c .before .minus .result)) ≡ mmOf (h .aft .0) =
-    rw (c .before .minus .ensures) (toZ-ofZ (minus-fits (h .aft .0) datum (omega arith) (omega arith))) in
-    let fe : toZ w64 (ofZ w64 (c .minus2 .result)) ≡ mmOf (h .fore .0) =
-    rw (c .minus2 .ensures) (toZ-ofZ (minus-fits (h .fore .0) datum (omega arith) (omega arith))) in
+    let ae : toZ w64 (ofZ w64 (c .before .mm-of-station .result)) ≡ mmOf (h .aft .0) =
+    rw (c .before .mm-of-station .ensures) (toZ-ofZ (minus-fits (h .aft .0) datum (omega arith) (omega arith))) in
+    let fe : toZ w64 (ofZ w64 (c .mm-of-station2 .result)) ≡ mmOf (h .fore .0) =
+    rw (c .mm-of-station2 .ensures) (toZ-ofZ (minus-fits (h .fore .0) datum (omega arith) (omega arith))) in
     λ i. record { enclosed = g .flag .ensures i; quarterdeck = q .flag2 .ensures i; aft = ae i; fore = fe i; height = h .height .0 }))

@@ -4,7 +4,8 @@ use lib.Dec.{eqb}
 use mir.Syntax.{w64}
 use mir.Facts.{toZ-ofZ}
 use borrow.Author.Needs.{needs}
-use Rattle.face.specs.Flat.{stationAt, houseFrom}
+use Rattle.units.specs.Datum.{stationAt}
+use Rattle.face.specs.Flat.{houseFrom}
 use Rattle.face.proofs.flat.to_house.Statement.{statement}
 use Rattle.face.proofs.flat.to_house.Tie as tie
 
@@ -19,8 +20,8 @@ to-house-spec =
     let b = c .before .before in
     let a = b .before .before in
     let h = a .before .before .args .h in
-    let at : a .station .result ≡ stationAt (h .aft) = a .station .ensures ∙ ap stationAt (toZ-ofZ {w = w64} {z = h .aft} (record { sfits = a .before .struct-told .given .1 .1 .0 .1 })) in
-    let to : b .station2 .result ≡ stationAt (h .fore) = b .station2 .ensures ∙ ap stationAt (toZ-ofZ {w = w64} {z = h .fore} (record { sfits = a .before .struct-told .given .1 .1 .1 .0 .1 })) in
+    let at : a .station-of-mm .result .0 ≡ stationAt (h .aft) = a .station-of-mm .ensures ∙ ap stationAt (toZ-ofZ {w = w64} {z = h .aft} (record { sfits = a .before .struct-told .given .1 .1 .0 .1 })) in
+    let to : b .station-of-mm2 .result .0 ≡ stationAt (h .fore) = b .station-of-mm2 .ensures ∙ ap stationAt (toZ-ofZ {w = w64} {z = h .fore} (record { sfits = a .before .struct-told .given .1 .1 .1 .0 .1 })) in
     λ i. record {
       enclosed = not (eqb (h .enclosed) 0);
       quarterdeck = not (eqb (h .quarterdeck) 0);

@@ -8,11 +8,11 @@ use native.Mathlib.Decide.{decLt}
 use borrow.Author.Tests.{leb-true, leb-false, le-leb, lt-leb, le-ltb, lt-ltb, not-true, not-false}
 use lib.Dec.{leb, ltb}
 use Rattle.whole.specs.Pick.{pick}
-use Rattle.whole.specs.Frac.{Frac, _≤f_, _≈f_, _+f_, _*f_, _-f_, maxf, minf, whole}
+use Rattle.whole.specs.Frac.{Frac, _≤f_, _≈f_, _+f_, _*f_, _-f_, _÷f_, maxf, minf, whole}
 use Rattle.whole.proofs.Pick.{same-test, by-cases}
 use Rattle.whole.proofs.Divide.{sub-mul}
-use Rattle.whole.proofs.Frac.{refl≤, both≤, min-left, min-right, min-greatest, max-left, max-right, max-least}
-use Rattle.signed.specs.Signed.{Signed, _≈s_, _≤s_, _≤s?_, _<s?_, plain, nil, _+s_, _-s_, _*s_, maxs, mins}
+use Rattle.whole.proofs.Frac.{bot-of, refl≤, both≤, min-left, min-right, min-greatest, max-left, max-right, max-least}
+use Rattle.signed.specs.Signed.{Signed, _≈s_, _≤s_, _≤s?_, _<s?_, plain, nil, _+s_, _-s_, _*s_, _÷s_, maxs, mins}
 
 -- ---- order
 pub refls : (x : Signed) → x ≤s x
@@ -148,6 +148,9 @@ pick-same false h k = k refl
 pub plain-same : {x y : Frac} → x ≈f y → plain x ≈s plain y
 plain-same h = omega arith
 
+pub plain-back : {x y : Frac} → plain x ≈s plain y → x ≈f y
+plain-back h = omega arith
+
 pub plain-order : {x y : Frac} → x ≤f y → plain x ≤s plain y
 plain-order h = omega arith
 
@@ -194,3 +197,42 @@ stopped x y =
     by-cases (λ (t : Signed). plain (x -f y) ≈s t) (nil ≤s? plain x -s plain y) (plain x -s plain y) nil
     (λ t. let h : nil ≤s plain x -s plain y = is≤ t in plain-less x y (omega arith))
     (λ t. let h : plain x -s plain y ≤s nil = not≤ t in let e : (x -f y) .top ≡ 0 = omega arith in omega arith)
+
+-- ---- how differences of fractions are worked
+pub nought : {x : Frac} → x .top ≡ 0 → plain x ≈s nil
+nought e = omega (arith, e)
+
+pub less-nil : (x : Signed) → x -s nil ≈s x
+less-nil x = omega arith
+
+pub less-both : (x y z : Frac) → plain x -s plain y -s plain z ≈s plain x -s plain (y +f z)
+less-both x y z = omega arith
+
+pub from-nil : (x y : Frac) → nil -s (plain x -s plain y) ≈s plain y -s plain x
+from-nil x y = omega arith
+
+pub two-differences : (x y z w : Frac) → plain x -s plain y +s (plain z -s plain w) ≈s plain (x +f z) -s plain (y +f w)
+two-differences x y z w = omega arith
+
+pub difference-times : (x y k : Frac) → (plain x -s plain y) *s plain k ≈s plain (x *f k) -s plain (y *f k)
+difference-times x y k = omega arith
+
+-- ---- over a fraction above zero
+pub ÷s-same : {x y : Signed} (z : Frac) → 0 < z .top → x ≈s y → x ÷s z ≈s y ÷s z
+÷s-same {x} {y} z p h =
+    record {
+      eq = rw (bot-of (x .bot * z .top) (mul-pos (x .pos) p), bot-of (y .bot * z .top) (mul-pos (y .pos) p))
+          (omega (arith, ap (λ (t : ℕ). t * (z .bot * z .top)) (h .eq)));
+    }
+
+pub plain-over : (x y : Frac) → plain (x ÷f y) ≈s plain x ÷s y
+plain-over x y = omega arith
+
+pub over-most : (x y : Frac) → 0 < y .top → x ≤f y → x ÷f y ≤f whole 1
+over-most x y p h = record { le = rw (bot-of (x .bot * y .top) (mul-pos (x .pos) p)) (omega arith) }
+
+pub over-least : (x y : Frac) → 0 < y .top → y ≤f x → whole 1 ≤f x ÷f y
+over-least x y p h = record { le = rw (bot-of (x .bot * y .top) (mul-pos (x .pos) p)) (omega arith) }
+
+pub le-less : (x y z : Frac) → z +f y ≤f x → z ≤f x -f y
+le-less x y z h = omega (arith, h, sub-mul (x .top * y .bot) (y .top * x .bot) (z .bot))

@@ -236,3 +236,36 @@ over-least x y p h = record { le = rw (bot-of (x .bot * y .top) (mul-pos (x .pos
 
 pub le-less : (x y z : Frac) → z +f y ≤f x → z ≤f x -f y
 le-less x y z h = omega (arith, h, sub-mul (x .top * y .bot) (y .top * x .bot) (z .bot))
+
+-- ---- under a floor that is not below zero
+times-max : {z : Signed} (x y : Signed) (k : Frac) → x *s plain k ≤s z → y *s plain k ≤s z → maxs x y *s plain k ≤s z
+unfolding maxs
+times-max {z} x y k h g = by-cases (λ (t : Signed). t *s plain k ≤s z) (x ≤s? y) y x (λ t. g) (λ t. h)
+
+-- differences that stop at zero give the same greatest value as signed ones
+floor-hides : (n k : Frac) (x y : Signed) → maxs (plain n) (maxs (maxs nil x) (maxs nil y) *s plain k) ≈s maxs (plain n) (maxs x y *s plain k)
+floor-hides n k x y =
+    let r = maxs (plain n) (maxs x y *s plain k) in
+    let z : nil *s plain k ≤s r = transs {y = plain n} (omega arith) (maxs-left (plain n) (maxs x y *s plain k)) in
+    let m = maxs-right (plain n) (maxs x y *s plain k) in
+    let d = maxs (maxs nil x) (maxs nil y) in
+    boths
+    (maxs-least (maxs-left (plain n) (maxs x y *s plain k))
+    (times-max (maxs nil x) (maxs nil y) k (times-max nil x k z (transs (times-plain k (maxs-left x y)) m)) (times-max nil y k z (transs (times-plain k (maxs-right x y)) m))))
+    (maxs-least (maxs-left (plain n) (d *s plain k))
+    (transs
+    (times-plain k
+    (maxs-least (transs (maxs-right nil x) (maxs-left (maxs nil x) (maxs nil y))) (transs (maxs-right nil y) (maxs-right (maxs nil x) (maxs nil y)))))
+    (maxs-right (plain n) (d *s plain k))))
+
+pub held : (n k x y z w : Frac) (s t : Signed) → s ≈s plain x -s plain y → t ≈s plain z -s plain w
+    → plain (maxf n (maxf (x -f y) (z -f w) *f k)) ≈s maxs (plain n) (maxs s t *s plain k)
+held n k x y z w s t h g =
+    let m = maxf (x -f y) (z -f w) in
+    trans≈s (plain-greater n (m *f k))
+    (trans≈s
+    (maxs-same (refl≈s (plain n))
+    (trans≈s (plain-product m k)
+    (*s-same (trans≈s (plain-greater (x -f y) (z -f w)) (maxs-same (stopped x y) (stopped z w))) (refl≈s (plain k)))))
+    (trans≈s (floor-hides n k (plain x -s plain y) (plain z -s plain w))
+    (maxs-same (refl≈s (plain n)) (*s-same (maxs-same (sym≈s h) (sym≈s g)) (refl≈s (plain k))))))

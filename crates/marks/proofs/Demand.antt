@@ -67,7 +67,7 @@ summer-bounded x k =
     summer-holds (basis x .floor) (addedTo x) (takenFrom ordinaryRow x) (exactAddedTo x) (exactTakenFrom ordinaryRow x)
     (loosen (omega arith) (sheer-within (x .sheer) l (coveredS x) (coverReach x) (omega arith) r a d))
     (loosen (omega arith)
-    (bow-within l (x .moulded .0) cb (x .waterplane) (sheerAt (x .sheer) 4) (sheerAt (x .sheer) 5) (partOf l f) (f .height .0) (g .moulded-least) (g .length-most) (g .waterplane-most)))
+    (bow-within l (x .moulded .0) cb (x .waterplane) (sheerAt (x .sheer) 4) (sheerAt (x .sheer) 5) (partOf l f) (f .height .0) (g .moulded-least) (g .length-most) (omega arith) (g .waterplane-most)))
 
 -- ---- of an answer, whatever the call: the equation of its contract is enough
 -- marks that are given are the ship's own

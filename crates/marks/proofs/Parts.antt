@@ -1,10 +1,11 @@
 -- The parts give the whole: a hull and a deck of one ship have its summer mark.
-use Prim.Native.Nat.{ℕ, _+_, _-_}
+use Prim.Native.Nat.{ℕ, _+_, _-_, _≤_, _<_}
 use mathlib.Core.Bool.{Bool}
 use mathlib.Core.List.{List}
 use mathlib.Core.Path.{_≡_, ap, ap₂}
 use native.Mathlib.Omega.{arith}
 use Rattle.whole.specs.Pick.{pick}
+use Rattle.whole.proofs.Pick.{by-cases}
 use Rattle.units.specs.Datum.{lift, sheerAt}
 use Rattle.tables.specs.Table37.{ordinaryRow}
 use Rattle.ship.specs.declared.Ship.{Ship}
@@ -20,8 +21,10 @@ use Rattle.sheer.specs.Sheer as Sheer
 use Rattle.bow.specs.Bow.{higher, lower, sheerTaken, forecastleTaken, bowFreeboard}
 use Rattle.mark.specs.Summer.{summerMark}
 use Rattle.deck.specs.Deck.{deckOf}
-use Rattle.marks.specs.Steps.{typeB, basis, coveredS, effectiveE, forecastleHouse, coverReach, addedTo, takenFrom, bowOf, summerOf}
+use Rattle.marks.specs.Basis.{Basis, basisOf}
+use Rattle.marks.specs.Steps.{Sound, typeB, basis, coveredS, effectiveE, forecastleHouse, coverReach, addedTo, takenFrom, bowOf, summerOf}
 use Rattle.marks.specs.Parts.{hullOf, addedOn, takenOn, bowOn, summerOn}
+use Rattle.marks.specs.Marks.{particularsOf}
 
 -- 37's test on the length that is rounded down is the one on the fraction
 taken-parts : (row : List ℕ) (x : Ship) → takenOn row (hullOf x) (deckOf (x .length .0) (housesOf x)) ≡ takenFrom row x
@@ -46,3 +49,9 @@ bow-parts x =
 pub summer-parts : (x : Ship) → summerOn (hullOf x) (deckOf (x .length .0) (housesOf x)) ≡ summerOf x
 unfolding summerOn addedOn hullOf deckOf summerOf addedTo coveredS effectiveE Before.added Sheer.added
 summer-parts x = ap₂ (summerMark (basis x .floor) (addedTo x)) (taken-parts ordinaryRow x) (bow-parts x)
+
+-- what the other marks need leaves room for what is worked with it
+pub fair-particulars : (x : Ship) → Sound x → (particularsOf x .floor ≤ 60000) × (particularsOf x .depth .0 ≤ 60000) × (particularsOf x .displacement < 1048576)
+unfolding particularsOf basisOf
+fair-particulars x k =
+    (by-cases (λ (b : Basis). b .floor ≤ 60000) (typeB x) _ _ (λ t. omega arith) (λ t. omega arith), k .good .depth-most, k .good .displacement)

@@ -177,22 +177,22 @@ by-sheer m x y L S reach p s h =
     let k = factor-plain L S p s in
     by-cases (λ (t : Signed). t ≈s plain add -s plain take) (m <s? nil) _ _
     (λ t.
-      let g : plain x -s plain y ≤s nil = transs (sames (sym≈s h)) (is< t) in
-      let u : x ≤f y = omega arith in
-      let z : (x -f y) .top ≡ 0 = omega arith in
-      let e : nil -s m ≈s plain (y -f x) =
-      trans≈s (-s-same (refl≈s nil) h) (trans≈s (from-nil x y) (sym≈s (plain-less y x u))) in
-      trans≈s (*s-same e k)
-      (trans≈s (sym≈s (plain-product (y -f x) f))
-      (trans≈s (sym≈s (less-nil (plain add))) (-s-same (refl≈s (plain add)) (sym≈s (nought {x = take} (rw (z, zero-mul, zero-mul, zero-mul, zero-min))))))))
+    let g : plain x -s plain y ≤s nil = transs (sames (sym≈s h)) (is< t) in
+    let u : x ≤f y = omega arith in
+    let z : (x -f y) .top ≡ 0 = omega arith in
+    let e : nil -s m ≈s plain (y -f x) =
+    trans≈s (-s-same (refl≈s nil) h) (trans≈s (from-nil x y) (sym≈s (plain-less y x u))) in
+    trans≈s (*s-same e k)
+    (trans≈s (sym≈s (plain-product (y -f x) f))
+    (trans≈s (sym≈s (less-nil (plain add))) (-s-same (refl≈s (plain add)) (sym≈s (nought {x = take} (rw (z, zero-mul, zero-mul, zero-mul, zero-min))))))))
     (λ t.
-      let g : nil ≤s plain x -s plain y = transs (not< t) (sames h) in
-      let u : y ≤f x = omega arith in
-      let z : (y -f x) .top ≡ 0 = omega arith in
-      let e : m ≈s plain (x -f y) = trans≈s h (sym≈s (plain-less x y u)) in
-      let d = trans≈s (*s-same e k) (sym≈s (plain-product (x -f y) f)) in
-      let r = trans≈s (*s-same d (refl≈s (plain c))) (sym≈s (plain-product ((x -f y) *f f) c)) in
-      -s-same (sym≈s (nought {x = add} (rw (z, zero-mul)))) (trans≈s (mins-same r (refl≈s (plain l))) (sym≈s (plain-lesser ((x -f y) *f f *f c) l))))
+    let g : nil ≤s plain x -s plain y = transs (not< t) (sames h) in
+    let u : y ≤f x = omega arith in
+    let z : (y -f x) .top ≡ 0 = omega arith in
+    let e : m ≈s plain (x -f y) = trans≈s h (sym≈s (plain-less x y u)) in
+    let d = trans≈s (*s-same e k) (sym≈s (plain-product (x -f y) f)) in
+    let r = trans≈s (*s-same d (refl≈s (plain c))) (sym≈s (plain-product ((x -f y) *f f) c)) in
+    -s-same (sym≈s (nought {x = add} (rw (z, zero-mul)))) (trans≈s (mins-same r (refl≈s (plain l))) (sym≈s (plain-lesser ((x -f y) *f f *f c) l))))
 
 pub sheer-signed : (o : List Ordinate) (L S reach : ℕ) → 0 < L → S ≤ L
     → bySheer (mean o L) L S reach ≈s plain (Sheer.exactAdded o L S) -s plain (Sheer.exactDeducted o L S reach)

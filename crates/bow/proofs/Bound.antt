@@ -7,8 +7,8 @@ use native.Mathlib.Nat.{mul-zero, zero-mul}
 use Rattle.whole.specs.Frac.{Frac, _≤f_, _+f_, _*f_, _-f_, whole, frac, ceil, floor}
 use Rattle.whole.specs.Round.{Within, Below}
 use Rattle.whole.proofs.Divide.{mul-most}
-use Rattle.whole.proofs.Frac.{bot-of, refl≤, trans≤, same, sym≈, sub-le, *-mono≤}
-use Rattle.whole.proofs.Round.{loosen, restate, by-ceil, by-floor, ceil-zero, floor-zero, in-millionths, sum, less, below-sum, exactly, exactly-below, over-up, over-down, mult-up, mult-down, loosen-below, restate-below}
+use Rattle.whole.proofs.Frac.{bot-of, trans≤, same, sym≈, sub-le}
+use Rattle.whole.proofs.Round.{loosen, exactly, sum, below-sum, less, near-mult, by-ceil, by-floor, near-ceil, near-floor, millionths-up, millionths-down, ceil-zero, floor-zero}
 use Rattle.whole.proofs.Signed.{one-nought, one-side}
 use Rattle.units.specs.Datum.{lift}
 use Rattle.bow.specs.Bow.{exactB1, rises, falls, exactB2Above, exactB2Below, b2Above, b2Below, higher, lower, sheerTaken, forecastleTaken, bowFreeboard, exactBow}
@@ -31,31 +31,23 @@ rises-least : (cb : ℕ) → frac 715 100 ≤f frac 507 100 +f rises cb
 unfolding rises
 rises-least cb = omega arith
 
--- a difference of at most n hundredths, in millionths
-in-millionths-most : (x y : Frac) (n : ℕ) → x ≤f frac n 100 +f y → (x -f y) *f whole 1000000 ≤f whole (10000 * n)
-in-millionths-most x y n h = trans≤ (*-mono≤ {y = frac n 100} (sub-le x y (frac n 100) h) (refl≤ (whole 1000000))) (omega arith)
-
 -- ---- the product, above zero and below
 module _ (L M cb cwf : ℕ) (h : 1000 ≤ M) (k : L ≤ 365000) (b : cb ≤ 12000) (g : cwf ≤ 10000) where
   higher-within : Within (higher L M cb cwf) (exactB1 L *f exactB2Above L M cb cwf) (whole 13)
   unfolding higher b2Above exactB2Above
   higher-within =
       let y = rises cb -f falls L M cwf in
-      loosen (omega arith)
-      (restate (in-millionths (exactB1 L) y)
-      (over-up 1000000 (omega arith)
-      (mult-up 6920000 2820000 (b1-most L k) (in-millionths-most (rises cb) (falls L M cwf) 282 (trans≤ (rises-most cb b) (omega arith)))
-      (by-ceil (exactB1 L)) (by-ceil (y *f whole 1000000)))))
+      let m : y ≤f frac 282 100 = sub-le (rises cb) (falls L M cwf) (frac 282 100) (trans≤ (rises-most cb b) (omega arith)) in
+      loosen (omega arith) (near-ceil (near-mult (b1-most L k) m (by-ceil (exactB1 L)) (millionths-up y (by-ceil (y *f whole 1000000)))))
 
   lower-below : Below (lower L M cb cwf) (exactB1 L *f exactB2Below L M cb cwf) (whole 13)
   unfolding lower b2Below exactB2Below
   lower-below =
       let y = falls L M cwf -f rises cb in
-      loosen-below (omega arith)
-      (restate-below (in-millionths (exactB1 L) y)
-      (over-down 1000000 (omega arith)
-      (mult-down 6920000 5070000 (b1-most L k) (in-millionths-most (falls L M cwf) (rises cb) 507 (trans≤ (falls-most L M cwf h k g) (rises-least cb)))
-      (by-floor (exactB1 L)) (by-floor (y *f whole 1000000)))))
+      let m : y ≤f frac 507 100 = sub-le (falls L M cwf) (rises cb) (frac 507 100) (trans≤ (falls-most L M cwf h k g) (rises-least cb)) in
+      let v = by-floor (exactB1 L) in
+      let w = millionths-down y (by-floor (y *f whole 1000000)) in
+      loosen (omega arith) (near-floor (near-mult (trans≤ (v .above) (b1-most L k)) (trans≤ (w .above) m) v w))
 
   -- one of the two is 0
   one-product : ((higher L M cb cwf ≡ 0) × ((exactB1 L *f exactB2Above L M cb cwf) .top ≡ 0)) ⊎ ((lower L M cb cwf ≡ 0) × ((exactB1 L *f exactB2Below L M cb cwf) .top ≡ 0))
@@ -79,4 +71,4 @@ unfolding bowFreeboard exactBow
 bow-within L M cb cwf sixth fp l height h k b g =
     let c = one-side (higher-within L M cb cwf h k b g) (lower-below L M cb cwf h k b g) (one-product L M cb cwf h k b g) in
     loosen (trans≤ {y = c .up +f c .down} (omega arith) (c .both))
-    (less (sum (c .plus) (exactly (sheerTaken sixth lift))) (below-sum (c .minus) (exactly-below (sheerTaken sixth fp + forecastleTaken L l height))))
+    (less (sum (c .plus) (exactly (sheerTaken sixth lift))) (below-sum (c .minus) (exactly (sheerTaken sixth fp + forecastleTaken L l height))))

@@ -15,7 +15,7 @@ use Rattle.whole.specs.Row.{Rising, height, heightIn, along}
 use Rattle.whole.proofs.Pick.{by-cases}
 use Rattle.whole.proofs.Divide.{mul-most, floor-most, min-mul}
 use Rattle.whole.proofs.Frac.{bot-of, refl≤, trans≤, *-mono≤}
-use Rattle.whole.proofs.Round.{by-floor, floor-of, floor-under, floor-test, in-millionths, loosen-below, restate-below, below-mult, over-down, near-below, near-times, near-floor}
+use Rattle.whole.proofs.Round.{loosen, by-floor, floor-of, floor-under, floor-test, near-times, near-mult, near-floor, millionths-down}
 use Rattle.whole.proofs.Row.{near-along, along-most, height-by, height-of-two, entry-rises, entry-most}
 use Rattle.corrections.specs.Deduction37.{full, exactFull, share, exactShare, tenth, shareFrom, ofFull, deduction, exactDeduction, lacksForecastle}
 
@@ -49,8 +49,7 @@ share-below : {row : List ℕ} → Rising 180 1000 row → (l e : ℕ) (x : Frac
     → Below (share row l e) (exactShare row l x *f whole 1000000) (frac 8 5)
 unfolding share exactShare
 share-below r l e x h w =
-    loosen-below (omega arith)
-    (near-floor (near-times (whole 1000000) (near-times (frac 1 1000) (near-along r (near-times (frac 1 (100 * l)) (near-below w))))))
+    loosen (omega arith) (near-floor (near-times (whole 1000000) (near-times (frac 1 1000) (near-along r (near-times (frac 1 (100 * l)) w)))))
 
 share-most : {m : ℕ} {row : List ℕ} → Rising m 1000 row → (l e : ℕ) → share row l e ≤ 1000000
 unfolding share exactShare
@@ -104,9 +103,9 @@ pub deduction-below : {row : List ℕ} → Rising 180 1000 row → (l e : ℕ) (
     → Below (deduction row l e) (exactDeduction row l x) (whole 4)
 unfolding ofFull deduction exactDeduction
 deduction-below {row} r l e x h w =
-    restate-below (in-millionths (exactFull l) (exactShare row l x))
-    (loosen-below (omega (arith, full-most l, share-most r l e))
-    (over-down 1000000 (omega arith) (below-mult (full-below l) (share-below r l e x h w))))
+    loosen (omega arith)
+    (near-floor (near-mult {m = whole 1070000} {k = whole 1} (omega (arith, full-most l)) (omega (arith, share-most r l e))
+    (full-below l) (millionths-down (exactShare row l x) (share-below r l e x h w))))
 
 pub of-full-most : (l s : ℕ) → s ≤ 1000000 → ofFull l s ≤ 1070000
 unfolding ofFull

@@ -3,20 +3,20 @@ use Prim.Native.Nat.{ℕ, _+_, _*_, _≤_}
 use native.Mathlib.Omega.{arith}
 use lib.Dec.{ltb}
 use Rattle.whole.specs.Frac.{Frac, _≤f_, _+f_, _*f_, whole, frac}
-use Rattle.whole.specs.Round.{Within}
-use Rattle.whole.proofs.Pick.{by-cases}
+use Rattle.whole.specs.Round.{Near, Within}
+use Rattle.whole.proofs.Pick.{by-cases, by-both}
 use Rattle.whole.proofs.Divide.{mul-most}
 use Rattle.whole.proofs.Frac.{refl≤, *-mono≤}
-use Rattle.whole.proofs.Round.{near-above, near-times, near-loosen, near-pick, near-ceil, ceil-under}
+use Rattle.whole.proofs.Round.{loosen, near-times, near-ceil, ceil-under}
 use Rattle.corrections.specs.Fullness30.{fullness, exactFullness}
 
 -- what the sum is off by grows with it, by at most 1.88 / 1.36, and the rounding costs 1 um
 pub fullness-within : {c : ℕ} {x e : Frac} (cb : ℕ) → cb ≤ 12000 → Within c x e → Within (fullness cb c) (exactFullness cb x) (e *f frac 47 34 +f whole 1)
 unfolding fullness exactFullness
 fullness-within {e = e} cb h w =
-    near-ceil (near-pick (ltb 6800 cb)
-    (near-loosen (*-mono≤ (refl≤ e) (omega arith)) (near-times (frac (cb + 6800) 13600) (near-above w)))
-    (near-loosen (omega arith) (near-above w)))
+    near-ceil (by-both (λ (z y : Frac). Near z y (e *f frac 47 34)) (ltb 6800 cb) _ _ _ _
+    (λ t. loosen (*-mono≤ (refl≤ e) (omega arith)) (near-times (frac (cb + 6800) 13600) w))
+    (λ t. loosen (omega arith) w))
 
 pub fullness-most : (cb sum : ℕ) → cb ≤ 12000 → fullness cb sum ≤ 2 * sum
 unfolding fullness exactFullness

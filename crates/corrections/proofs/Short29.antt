@@ -9,7 +9,7 @@ use Rattle.whole.specs.Frac.{Frac, _≈f_, _<f?_, _-f_, _*f_, whole, frac}
 use Rattle.whole.specs.Round.{Within, Below}
 use Rattle.whole.proofs.Divide.{ceil-most, mul-most}
 use Rattle.whole.proofs.Frac.{bot-of, untested-frac, trans≈}
-use Rattle.whole.proofs.Round.{loosen, ceil-of, near-below, near-less, near-times, near-as, near-ceil}
+use Rattle.whole.proofs.Round.{loosen, restate, exactly, ceil-of, near-less, near-times, near-ceil}
 use Rattle.corrections.specs.Short29.{shortB, exactShortB}
 
 -- in one product: where a test fails it is nothing anyhow
@@ -35,8 +35,8 @@ pub short-within : (l e : ℕ) (x : Frac) → 24000 ≤ l → Below e x (whole 8
 unfolding shortB
 short-within l e x h w =
     loosen (omega arith)
-    (near-ceil (near-as (one-product l x (omega arith)) (one-product l (whole e) (omega arith))
-    (near-times (frac (3 * (100000 - l)) (400 * l)) (near-less (whole (350 * l)) (near-below w)))))
+    (near-ceil (restate (one-product l x (omega arith)) (one-product l (whole e) (omega arith))
+    (near-times (frac (3 * (100000 - l)) (400 * l)) (near-less (exactly (350 * l)) w))))
 
 -- it is largest at L = 24 m and E = 0
 pub short-most : (l e : ℕ) → 24000 ≤ l → shortB l e ≤ 199500

@@ -16,8 +16,6 @@ ghost use Rattle.face.specs.Answers.{fromSheet, fromReply, fromReading, 
 use crate::flat::FlatShip;
 use mark::Marks;
 use marks::Answer;
-use record::reader;
-use record::writer;
 use ship::refusal;
 use ship::refusal::Refusal;
 use ship::refusal::Verdict;

@@ -11,7 +11,7 @@ use Rattle.whole.proofs.Pick.{by-cases}
 use Rattle.whole.specs.Frac.{Frac, _≈f_, whole, frac, _*f_, _÷f_, _<f?_}
 use Rattle.whole.proofs.Frac.{bot-of}
 use Rattle.whole.specs.Round.{Below}
-use Rattle.whole.proofs.Round.{by-floor, floor-of, exactly-below, below-sum, loosen-below}
+use Rattle.whole.proofs.Round.{by-floor, floor-of, exactly, below-sum, loosen}
 use Rattle.ship.specs.declared.House.{House}
 use Rattle.houses.specs.Length.{total}
 use Rattle.houses.specs.Height.{standardHeight}
@@ -24,11 +24,11 @@ effective-below l h = by-floor (exactEffective l h)
 
 pub effective-length-below : (l : ℕ) (hs : List House) → Below (effectiveLength l hs) (exactEffectiveLength l hs) (whole (length hs))
 unfolding effectiveLength exactEffectiveLength total
-effective-length-below l [] = exactly-below 0
-effective-length-below l (h ∷ hs) = loosen-below (omega arith) (below-sum (effective-below l h) (effective-length-below l hs))
+effective-length-below l [] = exactly 0
+effective-length-below l (h ∷ hs) = loosen (omega arith) (below-sum (effective-below l h) (effective-length-below l hs))
 
 pub effective-length-short : (l : ℕ) (hs : List House) → length hs ≤ 8 → Below (effectiveLength l hs) (exactEffectiveLength l hs) (whole 8)
-effective-length-short l hs n = loosen-below (omega arith) (effective-length-below l hs)
+effective-length-short l hs n = loosen (omega arith) (effective-length-below l hs)
 
 -- ---- what code computes: the quotient by a standard height of size / per mm
 -- a height is below the standard height where its product with `per` is below `size`

@@ -1,8 +1,6 @@
 // Reads each record that an argument names, prints its ship or its refusal, and writes an accepted ship back.
 // What must come is in `stdout`, made by `samples records` of twin/, which shares no code with the crates.
 use libc::STDOUT_FILENO;
-use record::reader;
-use record::writer;
 use ship::Ship;
 use ship::refusal::Verdict;
 

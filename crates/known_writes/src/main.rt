@@ -4,7 +4,6 @@
 ghost use Prim.Native.Nat.{_<_};
 ghost use lib.ListN.{length};
 use libc::STDOUT_FILENO;
-use record::writer;
 use ship::House;
 use ship::Ship;
 use ship::refusal::Verdict;

@@ -2,11 +2,9 @@
 -- What each rounding can cost is composed along the formula: 3.7 um and 4 um before sheer, 2 um by sheer, 14 um in the bow's; the mark has room for 100.
 use Prim.Native.Nat.{ℕ, _*_, _≤_}
 use mathlib.Core.List.{List, _++_}
-use mathlib.Core.Path.{_≡_, sym, ap, _∙_}
-use lib.Dec.{eqb}
+use mathlib.Core.Path.{_≡_, sym, ap}
 use native.Mathlib.Omega.{arith}
 use lib.ListN.{length, length-take}
-use Rattle.whole.specs.Pick.{pick}
 use Rattle.whole.specs.Frac.{whole, frac}
 use Rattle.whole.specs.Round.{Within, Below}
 use Rattle.whole.proofs.Pick.{by-cases}
@@ -17,7 +15,7 @@ use Rattle.tables.specs.Table37.{ordinaryRow}
 use Rattle.tables.proofs.Percentages.{each-row}
 use Rattle.ship.specs.declared.Ship.{Ship}
 use Rattle.ship.specs.Vessel.{housesOf}
-use Rattle.ship.specs.Refusals.{Paper, accepted, first}
+use Rattle.ship.specs.Refusals.{Paper, first}
 use Rattle.ship.specs.Checks.{shipLines}
 use Rattle.ship.proofs.Lines.{all-pass, all-pass-split, first-passed}
 use Rattle.ship.proofs.Accepted.{good}
@@ -32,12 +30,12 @@ use Rattle.corrections.specs.Fullness30.{counted}
 use Rattle.corrections.proofs.Gathered.{added-within, deducted-below}
 use Rattle.sheer.proofs.Bound.{sheer-within}
 use Rattle.bow.proofs.Bound.{bow-within}
-use Rattle.mark.specs.declared.Marks.{Marks}
 use Rattle.mark.specs.declared.Answer.{Answer}
 use Rattle.mark.specs.declared.Answer.the-variants.{Given, Refused}
-use Rattle.mark.specs.Others.{Sheet, noMarks, markLines, sixMarks, sheet, sheetOf, sheetAt}
+use Rattle.mark.specs.Others.{Sheet, markLines, sheet, sheetAt}
 use Rattle.mark.specs.Exact.{Holds}
 use Rattle.mark.proofs.Bound.{summer-holds}
+use Rattle.mark.proofs.OneToOne.{given-summer}
 use Rattle.marks.specs.Basis.{Basis, basisOf}
 use Rattle.marks.specs.Steps.{Sound, typeB, basis, coveredS, effectiveE, forecastleHouse, coverReach, addedTo, takenFrom, bowOf, summerOf}
 use Rattle.marks.specs.Exact.{exactE, exactAddedTo, exactTakenFrom, exactBowOf, exactSummerOf, Bounded}
@@ -70,16 +68,9 @@ summer-bounded x k =
     (bow-within l (x .moulded .0) cb (x .waterplane) (sheerAt (x .sheer) 4) (sheerAt (x .sheer) 5) (partOf l f) (f .height .0) (g .moulded-least) (g .length-most) (omega arith) (g .waterplane-most)))
 
 -- ---- of an answer, whatever the call: the equation of its contract is enough
--- marks that are given are the ship's own
-given-summer : (p : Paper) (x : Ship) (m : Marks) → record { verdict = accepted; marks = m } ≡ sheetOf p (sixMarks (particularsOf x) (summerOf x)) → m .s ≡ summerOf x
-unfolding sixMarks pick
-given-summer p x m e =
-    let v : p ≡ accepted = sym (ap (λ (t : Sheet). t .verdict) e) in
-    ap (λ (t : Sheet). t .marks .s) e ∙ ap (λ (q : Paper). pick (eqb (q .number) 0) (sixMarks (particularsOf x) (summerOf x)) noMarks .s) v
-
 pub bounded : (x : Ship) → Sound x → (r : Answer) → sheet r ≡ sheetFor x → Bounded r x
 unfolding sheetFor sheetAt
-bounded x k (Given m) e = rw (given-summer (first (markLines (particularsOf x) (summerOf x))) x m e) (summer-bounded x k)
+bounded x k (Given m) e = rw (given-summer (first (markLines (particularsOf x) (summerOf x))) (particularsOf x) (summerOf x) m e .1) (summer-bounded x k)
 bounded x k (Refused r) e = tt
 
 -- for every byte string for which the marks call gives marks
@@ -93,5 +84,5 @@ bounded-in s (Given m) e =
     let q = all-pass-split (shipLines x) more (p .1) in
     let f = frame-passed s (p .0) in
     let k : Sound x = record { type = f .type; few = f .few; good = good x (ap (λ (t : Paper). t .number) (first-passed (shipLines x) (q .0))) } in
-    rw (given-summer (first (frameLines s ++ (shipLines x ++ more))) x m e) (summer-bounded x k)
+    rw (given-summer (first (frameLines s ++ (shipLines x ++ more))) (particularsOf x) (summerOf x) m e .1) (summer-bounded x k)
 bounded-in s (Refused r) e = tt

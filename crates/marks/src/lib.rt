@@ -9,7 +9,6 @@ ghost use Rattle.marks.specs.Marks.{particularsOf, sheetFor, sheetIn};
 use crate::hull::Hull;
 use mark::Answer;
 use mark::Particulars;
-use record::reader;
 use ship::Ship;
 use ship::refusal::Verdict;
 

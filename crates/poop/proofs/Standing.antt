@@ -6,7 +6,7 @@ use mathlib.Core.Path.{_≡_, refl, sym, ap, _∙_, subst}
 use native.Mathlib.Omega.{arith}
 use native.Mathlib.Decide.{decLt}
 use borrow.Author.Tests.{le-leb, lt-leb, eqb-true, ne-eqb, eq-eqb}
-use lib.Dec.{eqb, leb, ltb}
+use lib.Dec.{eqb, leb}
 use lib.ListN.{length, take, length-take}
 use lib.Seq.{take-take, getD-take}
 use native.Mathlib.Numerals.{add-one}
@@ -16,46 +16,37 @@ use Rattle.units.specs.Datum.{stationOf}
 use Rattle.ship.specs.declared.House.{House}
 use Rattle.ship.specs.declared.Ship.{Ship}
 use Rattle.ship.specs.Vessel.{housesOf, houseAt}
-use Rattle.ship.specs.Refusals.{Paper, accepted, refused, first}
+use Rattle.ship.specs.Refusals.{Paper, Line, accepted, first}
 use Rattle.ship.specs.Checks.{houseLines}
 use Rattle.ship.specs.Good.{GoodHouses}
 use Rattle.ship.proofs.Lines.{all-pass, all-pass-split, first-skip, first-passed}
 use Rattle.ship.proofs.Accepted.{good-houses}
-use Rattle.mark.specs.declared.Marks.{Marks}
-use Rattle.mark.specs.Others as Others
+use Rattle.ship.proofs.Passing.{lines-pass, good-with}
+use Rattle.deck.specs.Deck.{deckOf, deckWith, FairDeck}
+use Rattle.deck.proofs.Gathered.{deck-with, fair-deck}
+use Rattle.mark.specs.Others.{markLines}
 use Rattle.marks.specs.Steps.{Sound, summerOf}
-use Rattle.marks.specs.Marks.{draught, fresh, markLines}
-use Rattle.marks.specs.Parts.{hullOf, deckOf, deckWith, summerOn, FairDeck}
-use Rattle.marks.proofs.Parts.{summer-parts, deck-with, fair-deck}
+use Rattle.marks.specs.Parts.{hullOf, summerOn, FairHull}
+use Rattle.marks.specs.Marks.{particularsOf}
+use Rattle.marks.proofs.Parts.{summer-parts, fair-particulars}
 use Rattle.poop.specs.declared.trial.Standing.{Standing}
 use Rattle.poop.specs.Poop.{poopHouse, withFirst, withPoop, within, marksWithin, fitsAt}
-use Rattle.poop.specs.Standing.{roomOf, standingOf, deckFor, markedOn, fitsOn}
+use Rattle.poop.specs.Standing.{roomOf, standingOf, deckFor, markedOn, fitsOn, Fair}
 use Rattle.poop.specs.Question.{shortestFrom, shortestFor}
 use Rattle.poop.proofs.Search.{same-search}
-use Rattle.poop.proofs.Passing.{lines-pass, good-with, poop-good}
+use Rattle.poop.proofs.Passing.{poop-good}
 
--- 12 and 13 as the marks have them and as the table's lines do
-same-lines : (y : Ship) (wish : ℕ)
-    → (eqb (Others.marksOf 50 (y .depth .0) (summerOf y) (y .length .0) (y .displacement) (y .immersion) .number) 0 && leb (summerOf y) wish)
-    ≡ within (markLines y) (summerOf y) wish
-unfolding within first pick Others.marksOf
-same-lines y wish =
-    go (leb (y .depth .0) (summerOf y)) (ltb (draught y) (fresh y)) (Others.sixMarks 50 (summerOf y) (draught y) (y .length .0) (fresh y))
-  where
-    go : (a b : Bool) (m : Marks)
-        → (eqb (pick a (Others.refused 12) (pick b (Others.refused 13) (Others.given m)) .number) 0 && leb (summerOf y) wish)
-        ≡ (eqb (pick a (refused 12 0) (pick b (refused 13 0) accepted) .number) 0 && leb (summerOf y) wish)
-    go true b m = refl
-    go false true m = refl
-    go false false m = refl
+-- 12 and 13 on a ship
+abbrev lines : Ship → List Line
+lines y = markLines (particularsOf y) (summerOf y)
 
 -- 9 to 11 pass: the marks decide
-houses-passed : (y : Ship) (wish : ℕ) → first (houseLines (y .length .0) (housesOf y)) ≡ accepted → within (markLines y) (summerOf y) wish ≡ marksWithin y wish
+houses-passed : (y : Ship) (wish : ℕ) → first (houseLines (y .length .0) (housesOf y)) ≡ accepted → within (lines y) (summerOf y) wish ≡ marksWithin y wish
 unfolding marksWithin within
 houses-passed y wish e =
     let ts = houseLines (y .length .0) (housesOf y) in
     let p = all-pass ts (omega arith) (ap (λ (v : Paper). v .number) e) in
-    ap (λ (v : Paper). eqb (v .number) 0 && leb (summerOf y) wish) (sym (first-skip ts (markLines y) p))
+    ap (λ (v : Paper). eqb (v .number) 0 && leb (summerOf y) wish) (sym (first-skip ts (lines y) p))
 
 -- ---- one ship, and one height of poop
 module _ (x : Ship) (s : Sound x) (few : x .n < 8) (eight : length (x .houses) ≡ 8) (height wish : ℕ) (least : 1 ≤ height) (most : height ≤ 8191) where
@@ -63,8 +54,7 @@ module _ (x : Ship) (s : Sound x) (few : x .n < 8) (eight : length (x .houses) �
   fits-none : fitsOn (standingOf x height wish) 0 ≡ fitsAt x height wish 0
   unfolding fitsOn standingOf deckFor markedOn fitsAt withPoop hullOf pick
   fits-none =
-      rw (le-leb 0 (roomOf x) (omega arith), summer-parts x)
-      (same-lines x wish ∙ houses-passed x wish (lines-pass (x .length .0) (housesOf x) (s .good .houses)))
+      rw (le-leb 0 (roomOf x) (omega arith), summer-parts x) (houses-passed x wish (lines-pass (x .length .0) (housesOf x) (s .good .houses)))
 
   -- the first house, and the room before it
   first-house : 0 < x .n → houseAt (housesOf x) 0 ≡ houseAt (x .houses) 0
@@ -116,21 +106,21 @@ module _ (x : Ship) (s : Sound x) (few : x .n < 8) (eight : length (x .houses) �
 
     refused-with : roomOf x < 100 * k → marksWithin (withFirst (poopHouse height k) x) wish ≡ false
     unfolding marksWithin within withFirst
-    refused-with h = go (eqb (first (houseLines (y .length .0) (housesOf y) ++ markLines y) .number) 0) refl
+    refused-with h = go (eqb (first (houseLines (y .length .0) (housesOf y) ++ lines y) .number) 0) refl
       where
         y : Ship
         y = withFirst (poopHouse height k) x
 
-        go : (b : Bool) → eqb (first (houseLines (y .length .0) (housesOf y) ++ markLines y) .number) 0 ≡ b → (b && leb (summerOf y) wish) ≡ false
+        go : (b : Bool) → eqb (first (houseLines (y .length .0) (housesOf y) ++ lines y) .number) 0 ≡ b → (b && leb (summerOf y) wish) ≡ false
         go false e = refl
         go true e =
             let ts = houseLines (y .length .0) (housesOf y) in
-            let p = all-pass-split ts (markLines y) (all-pass (ts ++ markLines y) (omega arith) (eqb-true _ 0 e)) in
+            let p = all-pass-split ts (lines y) (all-pass (ts ++ lines y) (omega arith) (eqb-true _ 0 e)) in
             let g = good-houses (y .length .0) (housesOf y) (ap (λ (v : Paper). v .number) (first-passed ts (p .0))) in
             absurd (lapped h (subst (GoodHouses (x .length .0)) houses-with g))
 
     fits-some : fitsOn (standingOf x height wish) k ≡ fitsAt x height wish k
-    unfolding fitsOn fitsAt withPoop markedOn standingOf hullOf withFirst pick
+    unfolding fitsOn fitsAt withPoop markedOn standingOf hullOf particularsOf withFirst pick
     fits-some =
         let y = withFirst (poopHouse height k) x in
         let z = ne-eqb k 0 (λ e. omega arith) in
@@ -138,7 +128,7 @@ module _ (x : Ship) (s : Sound x) (few : x .n < 8) (eight : length (x .houses) �
           | yes t ↦ rw (z, lt-leb (100 * k) (roomOf x) t) (sym (refused-with t))
           | no t ↦
               (let g = subst (GoodHouses (x .length .0)) (sym houses-with) (good-list (omega arith)) in
-              rw (z, le-leb (100 * k) (roomOf x) (omega arith), summer-with) (same-lines y wish ∙ houses-passed y wish (lines-pass (x .length .0) (housesOf y) g)))
+              rw (z, le-leb (100 * k) (roomOf x) (omega arith), summer-with) (houses-passed y wish (lines-pass (x .length .0) (housesOf y) g)))
         ]
 
     -- the deck of a list that is good leaves room
@@ -153,20 +143,32 @@ module _ (x : Ship) (s : Sound x) (few : x .n < 8) (eight : length (x .houses) �
   fits-same zero h = fits-none
   fits-same (suc k) h = fits-some (suc k) (omega arith) h
 
-  pub fair-for : (k : ℕ) → 100 * k ≤ x .length .0 → 100 * k ≤ roomOf x → FairDeck (x .length .0) (deckFor (standingOf x height wish) k)
+  fair-for : (k : ℕ) → 100 * k ≤ x .length .0 → 100 * k ≤ roomOf x → FairDeck (x .length .0) (deckFor (standingOf x height wish) k)
   unfolding deckFor standingOf pick
   fair-for zero h r = fair-deck (x .length .0) (housesOf x) (s .good .houses)
   fair-for (suc k) h r = fair-with (suc k) (omega arith) h r
+
+  -- so what is worked once is fair
+  pub fair-standing : FairHull (hullOf x) → Fair (standingOf x height wish)
+  unfolding standingOf hullOf
+  fair-standing h =
+      let p = fair-particulars x s in
+      record {
+        hull = h;
+        deck = fair-deck (x .length .0) (housesOf x) (s .good .houses);
+        floor = p .0;
+        depth = p .1;
+        displacement = p .2;
+        height-least = least;
+        height-most = most;
+        poop = fair-for;
+      }
 
   -- ---- so of what was worked once, whatever worked it
   module _ (q : Standing) (e : q ≡ standingOf x height wish) where
     pub length-stands : q .hull .length .0 ≡ x .length .0
     unfolding standingOf hullOf
     length-stands = ap (λ (p : Standing). p .hull .length .0) e
-
-    pub fair-at : (k : ℕ) → 100 * k ≤ x .length .0 → 100 * k ≤ q .room → FairDeck (q .hull .length .0) (deckFor q k)
-    unfolding standingOf hullOf
-    fair-at k h r = rw e (fair-for k h (rw e at r))
 
     pub searched : shortestFrom (fitsOn q) (x .length .0 / 100 + 1) 0 ≡ shortestFor x height wish
     unfolding shortestFor

@@ -12,7 +12,8 @@ use Rattle.ship.specs.Vessel.{housesOf}
 use Rattle.ship.specs.Refusals.{Line, first}
 use Rattle.ship.specs.Checks.{houseLines}
 use Rattle.marks.specs.Steps.{summerOf}
-use Rattle.marks.specs.Marks.{markLines}
+use Rattle.mark.specs.Others.{markLines}
+use Rattle.marks.specs.Marks.{particularsOf}
 
 -- an enclosed house, no raised quarterdeck, of the asked height, from 0 to 100k mm
 unfoldable pub poopHouse : ℕ → ℕ → House
@@ -50,7 +51,7 @@ within ts S wish = eqb (first ts .number) 0 && leb S wish
 
 -- the whole calculation on a ship's list of houses, 9 to 13, gives marks with S at most the wish
 unfoldable pub marksWithin : Ship → ℕ → Bool
-marksWithin y wish = within (houseLines (y .length .0) (housesOf y) ++ markLines y) (summerOf y) wish
+marksWithin y wish = within (houseLines (y .length .0) (housesOf y) ++ markLines (particularsOf y) (summerOf y)) (summerOf y) wish
 
 -- k fits: any of 9 to 13 on the new list only makes it unfit
 unfoldable pub fitsAt : Ship → ℕ → ℕ → ℕ → Bool

@@ -3,11 +3,10 @@ ghost use mathlib.Core.Path.{_≡_};
 ghost use Prim.Native.Nat.{_≤_, _<_};
 ghost use Rattle.marks.specs.Steps.{Sound};
 ghost use Rattle.poop.specs.Question.{reply, noRoom, shortestFor, replyFor, replyIn};
-use record::reader;
 use ship::Ship;
 use ship::refusal::Refusal;
 use ship::refusal::Verdict;
-use units::AP;
+use units::Span;
 
 pub mod trial;
 
@@ -23,14 +22,14 @@ fn no_room(x: Ship) -> bool
 {
     let hs = x.houses;
     let h = hs[0];
-    let aft = h.aft.0;
-    ((0 < x.n) & (aft <= AP)) | (x.n == 8)
+    let ap = units::forward_of_ap(Span(0));
+    ((0 < x.n) & units::is_at_or_abaft(h.aft, ap)) | (x.n == 8)
 }
 
 // The first length that fits. A longer poop can raise the mark, so each is tried.
-fn shortest(x: Ship, height: u64, wish: u64) -> Answer
-    requires { ⌜ Sound x × (x .n < 8) × (1 ≤ height) × (height ≤ 8191) ⌝ }
-    ensures { λ r. ⌜ reply r ≡ shortestFor x height wish ⌝ }
+fn shortest(x: Ship, height: Span, wish: u64) -> Answer
+    requires { ⌜ Sound x × (x .n < 8) × (1 ≤ height .0) × (height .0 ≤ 8191) ⌝ }
+    ensures { λ r. ⌜ reply r ≡ shortestFor x (height .0) wish ⌝ }
 {
     let q = trial::standing_of(x, height, wish);
     let l = x.length.0;
@@ -55,7 +54,7 @@ pub fn of_ship(x: Ship, height: u64, wish: u64) -> Answer
     if no_room(x) {
         return Answer::Refused(Refusal::NoRoomForPoop);
     }
-    shortest(x, height, wish)
+    shortest(x, Span(height), wish)
 }
 
 // The question on any bytes.

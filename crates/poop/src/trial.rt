@@ -2,79 +2,75 @@
 ghost use mathlib.Core.Path.{_≡_};
 ghost use Prim.Native.Nat.{_*_, _≤_, _<_};
 ghost use Rattle.marks.specs.Steps.{Sound};
-ghost use Rattle.marks.specs.Parts.{FairDeck};
 ghost use Rattle.poop.specs.Poop.{poopHouse};
 ghost use Rattle.poop.specs.Standing.{roomOf, standingOf, deckFor, markedOn, fitsOn, Fair};
-use mark::Outcome;
+use deck::Deck;
+use mark::Answer;
+use mark::Particulars;
+use marks::hull;
+use marks::hull::Hull;
 use marks::steps;
-use marks::steps::Deck;
-use marks::steps::Hull;
 use ship::House;
 use ship::Ship;
-use units::AP;
 use units::Span;
 
 // What no length of poop changes: the hull, the deck without a poop, how far a poop may reach, what the marks need besides, and what is asked.
 pub struct Standing {
     pub hull: Hull,
     pub deck: Deck,
-    pub room: u64,
-    pub depth: Span,
-    pub displacement: u64,
-    pub immersion: u64,
-    pub height: u64,
+    pub room: Span,
+    pub particulars: Particulars,
+    pub height: Span,
     pub wish: u64,
 }
 
 // How far a poop may reach: to the first house, or to L.
-fn room_of(x: Ship) -> u64
-    ensures { λ r. ⌜ r ≡ roomOf x ⌝ }
+fn room_of(x: Ship) -> Span
+    ensures { λ r. ⌜ r .0 ≡ roomOf x ⌝ }
 {
     if x.n == 0 {
-        return x.length.0;
+        return x.length;
     }
     let hs = x.houses;
     let h = hs[0];
-    whole::less(h.aft.0, AP)
+    let ap = units::forward_of_ap(Span(0));
+    units::between(ap, h.aft)
 }
 
 // All of that, for a ship and what is asked.
-pub fn standing_of(x: Ship, height: u64, wish: u64) -> Standing
-    requires { ⌜ Sound x × (1 ≤ height) × (height ≤ 8191) ⌝ }
-    ensures { λ r. ⌜ r ≡ standingOf x height wish ⌝ }
+pub fn standing_of(x: Ship, height: Span, wish: u64) -> Standing
+    requires { ⌜ Sound x × (x .n < 8) × (1 ≤ height .0) × (height .0 ≤ 8191) ⌝ }
+    ensures { λ r. ⌜ r ≡ standingOf x (height .0) wish ⌝ }
     ensures { λ r. ⌜ Fair r ⌝ }
 {
-    let l = x.length;
     let hs = x.houses;
-    let depth = x.depth;
-    let hull = steps::hull_of(x);
-    let deck = steps::deck_of(l, hs, x.n);
+    let hull = hull::hull_of(x);
+    let deck = deck::deck_of(x.length, hs, x.n);
     let room = room_of(x);
+    let particulars = marks::particulars_of(x, hull);
     Standing {
         hull,
         deck,
         room,
-        depth,
-        displacement: x.displacement,
-        immersion: x.immersion,
+        particulars,
         height,
         wish,
     }
 }
 
 // The poop of `k` decimetres.
-fn poop_house(height: u64, k: u64) -> House
+fn poop_house(height: Span, k: u64) -> House
     requires { ⌜ k ≤ 3650 ⌝ }
-    ensures { λ r. ⌜ r ≡ poopHouse height k ⌝ }
+    ensures { λ r. ⌜ r ≡ poopHouse (height .0) k ⌝ }
 {
     let aft = units::forward_of_ap(Span(0));
-    let fore = units::forward_of_ap(Span(100 * k));
+    let fore = units::forward_of_ap(units::span_of_dm(k));
     House {
         enclosed: true,
         quarterdeck: false,
         aft,
         fore,
-        height: Span(height),
+        height,
     }
 }
 
@@ -88,8 +84,8 @@ fn deck_for(q: Standing, k: u64) -> Deck
     if k == 0 {
         return deck;
     }
-    let l = hull.length;
-    steps::with_house(l, poop_house(q.height, k), deck)
+    let height = q.height;
+    deck::with_house(hull.length, poop_house(height, k), deck)
 }
 
 // Whether the marks that follow from `s` are given, with S at most the wish.
@@ -97,23 +93,21 @@ fn marked(q: Standing, s: u64) -> bool
     requires { ⌜ Fair q ⌝ }
     ensures { λ r. ⌜ r ≡ markedOn q s ⌝ }
 {
-    let hull = q.hull;
-    let l = hull.length;
-    let depth = q.depth;
-    let o = mark::follow(50, depth, s, l, q.displacement, q.immersion);
-    match o {
-        Outcome::Given(m) => m.s <= q.wish,
-        Outcome::NoDraught => false,
-        Outcome::FreshAllowance => false,
+    let a = mark::follow(q.particulars, s);
+    match a {
+        Answer::Given(m) => m.s <= q.wish,
+        Answer::Refused(_) => false,
     }
 }
 
 // Whether a poop of `k` decimetres fits. Of checks 9 to 11 only the overlap with the first house can refuse it.
 pub fn fits(q: Standing, k: u64) -> bool
-    requires { ⌜ Fair q × (100 * k ≤ q .hull .length .0) × (100 * k ≤ q .room → FairDeck (q .hull .length .0) (deckFor q k)) ⌝ }
+    requires { ⌜ Fair q × (100 * k ≤ q .hull .length .0) ⌝ }
     ensures { λ r. ⌜ r ≡ fitsOn q k ⌝ }
 {
-    if q.room < 100 * k {
+    let poop = units::span_of_dm(k);
+    let room = q.room;
+    if room.0 < poop.0 {
         return false;
     }
     let hull = q.hull;

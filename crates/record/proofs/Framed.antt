@@ -5,7 +5,7 @@ use mathlib.Core.List.{List, _++_}
 use mathlib.Core.Path.{_≡_, refl, sym, ap, subst, _∙_}
 use lib.ListN.{length}
 use lib.Dec.{eqb, ltb}
-use borrow.Author.Tests.{ltb-false, eqb-true, not-false, ne-eqb, le-ltb, eq-eqb}
+use borrow.Author.Tests.{ltb-false, eqb-true, not-false, le-ltb, eq-eqb}
 use native.Mathlib.Omega.{arith}
 use Rattle.whole.specs.Pick.{pick}
 use Rattle.ship.specs.declared.Ship.{Ship}
@@ -13,53 +13,43 @@ use Rattle.ship.specs.declared.refusal.Refusal.{Refusal}
 use Rattle.ship.specs.Vessel.{noShip}
 use Rattle.ship.specs.Refusals.{Paper, accepted, refused, numberOf, placeOf, first}
 use Rattle.ship.specs.Checks.{shipLines}
-use Rattle.ship.proofs.Lines.{AllPass, all-pass, all-pass-split, first-append, first-passed, or-false}
+use Rattle.ship.proofs.Lines.{AllPass, all-pass, all-pass-split, first-accepted, first-refused, first-passed, beside-refusal}
 use Rattle.ship.specs.Good.{Good}
 use Rattle.ship.proofs.Accepted.{good}
-use Rattle.ship.proofs.OneToOne.{number-above-0}
-use Rattle.record.specs.Layout.{version, kind, count, spare, shipIn}
-use Rattle.record.specs.Reading.{Reading, frameLines, firstSpare, readingOf, readingIn}
+use Rattle.record.specs.Layout.{recordLength, headIn, shipIn}
+use Rattle.record.specs.Reading.{Reading, sparesIn, headLines, frameLines, readingOf, readingIn}
 
+-- the bytes of a record with a right head, in its right length, with no spare bit set
 pub record Framed (s : List ℕ) : Type 0 where
   pub long : 27 ≤ length s
-  pub first : version s ≡ 1
-  pub type : kind s ≤ 1
-  pub few : count s ≤ 8
-  pub exact : length s ≡ 27 + 8 * count s
-  pub blank : spare s ≡ 0
-  pub blanks : count s ≤ firstSpare s
+  pub first : headIn s .version ≡ 1
+  pub type : headIn s .kind ≤ 1
+  pub few : headIn s .count ≤ 8
+  pub exact : length s ≡ recordLength (headIn s .count)
+  pub blank : headIn s .spare + sparesIn s (headIn s .count) ≡ 0
 
 pub frame-passed : (s : List ℕ) → AllPass (frameLines s) → Framed s
-frame-passed s p =
-    let six = or-false (not (eqb (spare s) 0)) (ltb (firstSpare s) (count s)) (p .1 .1 .1 .1 .1 .0) in
-    record {
-      long = ltb-false (length s) 27 (p .0);
-      first = eqb-true (version s) 1 (not-false (eqb (version s) 1) (p .1 .0));
-      type = ltb-false 1 (kind s) (p .1 .1 .0);
-      few = ltb-false 8 (count s) (p .1 .1 .1 .0);
-      exact = eqb-true (length s) (27 + 8 * count s) (not-false (eqb (length s) (27 + 8 * count s)) (p .1 .1 .1 .1 .0));
-      blank = eqb-true (spare s) 0 (not-false (eqb (spare s) 0) (six .0));
-      blanks = ltb-false (firstSpare s) (count s) (six .1);
-    }
-
-pub framed : (s : List ℕ) → first (frameLines s) .number ≡ 0 → Framed s
-framed s e = frame-passed s (all-pass (frameLines s) (omega arith) e)
+frame-passed s p = record {
+  long = ltb-false (length s) 27 (p .0);
+  first = eqb-true (headIn s .version) 1 (not-false (eqb (headIn s .version) 1) (p .1 .0));
+  type = ltb-false 1 (headIn s .kind) (p .1 .1 .0);
+  few = ltb-false 8 (headIn s .count) (p .1 .1 .1 .0);
+  exact = eqb-true (length s) (recordLength (headIn s .count)) (not-false (eqb (length s) (recordLength (headIn s .count))) (p .1 .1 .1 .1 .0));
+  blank = eqb-true (headIn s .spare + sparesIn s (headIn s .count)) 0 (not-false (eqb (headIn s .spare + sparesIn s (headIn s .count)) 0) (p .1 .1 .1 .1 .1 .0));
+}
 
 -- and back
 pub frame-passes : (s : List ℕ) → Framed s → first (frameLines s) ≡ accepted
 frame-passes s f =
-    let a = f .first in
-    let b = f .exact in
-    let c = f .blank in
     first-passed (frameLines s) (
       le-ltb (length s) 27 (f .long),
       (
-        ap not (eq-eqb (version s) 1 a),
+        ap not (eq-eqb (headIn s .version) 1 (f .first)),
         (
-          le-ltb 1 (kind s) (f .type),
+          le-ltb 1 (headIn s .kind) (f .type),
           (
-            le-ltb 8 (count s) (f .few),
-            (ap not (eq-eqb (length s) (27 + 8 * count s) b), (rw (eq-eqb (spare s) 0 c) (le-ltb (firstSpare s) (count s) (f .blanks)), tt)),
+            le-ltb 8 (headIn s .count) (f .few),
+            (ap not (eq-eqb (length s) (recordLength (headIn s .count)) (f .exact)), (ap not (eq-eqb (headIn s .spare + sparesIn s (headIn s .count)) 0 (f .blank)), tt)),
           ),
         ),
       ),
@@ -67,25 +57,19 @@ frame-passes s f =
 
 -- bytes with a right frame read as the ship's own checks say
 pub reading-framed : (s : List ℕ) → first (frameLines s) ≡ accepted → readingIn s ≡ readingOf (first (shipLines (shipIn s))) (shipIn s)
-unfolding readingIn pick
-reading-framed s e =
-    let t : first (frameLines s ++ shipLines (shipIn s)) ≡ first (shipLines (shipIn s)) = first-append (frameLines s) (shipLines (shipIn s)) (omega arith) ∙ rw e refl in
-    ap (λ (p : Paper). readingOf p (shipIn s)) t
+unfolding readingIn
+reading-framed s e = ap (λ (p : Paper). readingOf p (shipIn s)) (first-accepted (frameLines s) (shipLines (shipIn s)) (omega arith) e)
 
 -- beside a refusal stands no ship
-pub reading-refused : (r : Refusal) (x : Ship) → readingOf (refused (numberOf r) (placeOf r)) x ≡ readingOf (refused (numberOf r) (placeOf r)) noShip
-unfolding pick
-reading-refused r x =
-    let n : ¬ (numberOf r ≡ 0) = λ z. omega (arith, number-above-0 r) in
-    rw (ne-eqb (numberOf r) 0 n) refl
+pub reading-refused : (r : Refusal) (x : Ship) → readingOf (refused (numberOf r) (placeOf r)) x ≡ record { verdict = refused (numberOf r) (placeOf r); ship = noShip }
+reading-refused r x = λ i. record { verdict = refused (numberOf r) (placeOf r); ship = beside-refusal r x noShip i }
 
-pub reading-unframed : (s : List ℕ) (r : Refusal) → first (frameLines s) ≡ refused (numberOf r) (placeOf r) → readingIn s ≡ readingOf (refused (numberOf r) (placeOf r)) noShip
-unfolding readingIn pick
+-- bytes whose frame is refused have its refusal
+pub reading-unframed : (s : List ℕ) (r : Refusal) → first (frameLines s) ≡ refused (numberOf r) (placeOf r)
+    → readingIn s ≡ record { verdict = refused (numberOf r) (placeOf r); ship = noShip }
+unfolding readingIn
 reading-unframed s r e =
-    let n : ¬ (numberOf r ≡ 0) = λ z. omega (arith, number-above-0 r) in
-    let t : first (frameLines s ++ shipLines (shipIn s)) ≡ refused (numberOf r) (placeOf r) =
-    first-append (frameLines s) (shipLines (shipIn s)) (omega arith) ∙ rw (e, ne-eqb (numberOf r) 0 n) refl in
-    ap (λ (p : Paper). readingOf p (shipIn s)) t ∙ reading-refused r (shipIn s)
+    ap (λ (p : Paper). readingOf p (shipIn s)) (first-refused (frameLines s) (shipLines (shipIn s)) r (omega arith) e) ∙ reading-refused r (shipIn s)
 
 -- ---- what an accepted reading shows of its ship
 module _ (s : List ℕ) (x : Ship) (e : readingIn s ≡ record { verdict = accepted; ship = x }) where

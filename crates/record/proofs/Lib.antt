@@ -1,5 +1,5 @@
+pub mod Complement
 pub mod Parts
-pub mod HeadIn
-pub mod HeadOut
 pub mod Framed
+pub mod Calls
 pub mod Written

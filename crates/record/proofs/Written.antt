@@ -1,10 +1,10 @@
 -- What the writer's verdict is once type and count are right, and what an accepted ship gives the parts that write it.
-use Prim.Native.Nat.{ℕ, _+_, _*_, _≤_, _<_}
-use mathlib.Core.List.{List, [], _∷_}
+use Prim.Native.Nat.{ℕ, _≤_, _<_}
+use mathlib.Core.List.{List, [], _∷_, _++_}
+use lib.ListN.{drop}
 use mathlib.Core.Path.{_≡_, refl, _∙_}
 use lib.Dec.{eqb, ltb}
-use mathlib.Core.Bool.{false}
-use borrow.Author.Tests.{le-ltb, lt-ltb, ne-eqb}
+use borrow.Author.Tests.{le-ltb, lt-ltb}
 use native.Mathlib.Omega.{arith}
 use Rattle.whole.specs.Pick.{pick}
 use Rattle.bits.specs.Fields.{Fit}
@@ -14,41 +14,36 @@ use Rattle.ship.specs.declared.refusal.Refusal.{Refusal}
 use Rattle.ship.specs.Refusals.{accepted, refused, numberOf, placeOf, first}
 use Rattle.ship.specs.Checks.{shipLines}
 use Rattle.ship.specs.Good.{Good}
-use Rattle.ship.proofs.Lines.{first-append}
-use Rattle.ship.proofs.OneToOne.{number-above-0}
-use Rattle.record.specs.Layout.{headWidths, headFields, Low}
+use Rattle.ship.proofs.Lines.{first-append, beside-refusal}
+use Rattle.record.specs.Layout.{recordLength, recordBytes, headWidths, headFields, shipHead, Low}
 use Rattle.record.specs.Writing.{writingOf, written}
-
--- a refusal's number is not that of acceptance
-no-zero : (r : Refusal) → eqb (numberOf r) 0 ≡ false
-no-zero r = ne-eqb (numberOf r) 0 (λ z. omega (arith, number-above-0 r))
 
 -- the ship's own checks, then the room
 pub writing-judged : (room : ℕ) (x : Ship) → x .kind ≤ 1 → x .n ≤ 8
-    → writingOf room x ≡ pick (eqb (first (shipLines x) .number) 0) (pick (ltb room (27 + 8 * x .n)) (refused 17 0) accepted) (first (shipLines x))
+    → writingOf room x ≡ pick (eqb (first (shipLines x) .number) 0) (pick (ltb room (recordLength (x .n))) (refused 17 0) accepted) (first (shipLines x))
 unfolding writingOf first pick
 writing-judged room x k n =
-    rw (le-ltb 1 (x .kind) k, le-ltb 8 (x .n) n) (first-append (shipLines x) ((ltb room (27 + 8 * x .n), refused 17 0) ∷ []) (omega arith))
+    rw (le-ltb 1 (x .kind) k, le-ltb 8 (x .n) n) (first-append (shipLines x) ((ltb room (recordLength (x .n)), refused 17 0) ∷ []) (omega arith))
 
 module _ (room : ℕ) (x : Ship) (k : x .kind ≤ 1) (n : x .n ≤ 8) where
-  pub writing-accepted : first (shipLines x) ≡ accepted → 27 + 8 * x .n ≤ room → writingOf room x ≡ accepted
+  pub writing-accepted : first (shipLines x) ≡ accepted → recordLength (x .n) ≤ room → writingOf room x ≡ accepted
   unfolding pick
-  writing-accepted e h = writing-judged room x k n ∙ rw (e, le-ltb room (27 + 8 * x .n) h) refl
+  writing-accepted e h = writing-judged room x k n ∙ rw (e, le-ltb room (recordLength (x .n)) h) refl
 
-  pub writing-short : first (shipLines x) ≡ accepted → room < 27 + 8 * x .n → writingOf room x ≡ refused 17 0
+  pub writing-short : first (shipLines x) ≡ accepted → room < recordLength (x .n) → writingOf room x ≡ refused 17 0
   unfolding pick
-  writing-short e h = writing-judged room x k n ∙ rw (e, lt-ltb room (27 + 8 * x .n) h) refl
+  writing-short e h = writing-judged room x k n ∙ rw (e, lt-ltb room (recordLength (x .n)) h) refl
 
   pub writing-refused : (r : Refusal) → first (shipLines x) ≡ refused (numberOf r) (placeOf r) → writingOf room x ≡ refused (numberOf r) (placeOf r)
   unfolding pick
-  writing-refused r e = writing-judged room x k n ∙ rw (e, no-zero r) refl
+  writing-refused r e = writing-judged room x k n ∙ rw e (beside-refusal r (pick (ltb room (recordLength (x .n))) (refused 17 0) accepted) (refused (numberOf r) (placeOf r)))
 
 -- a refusal changes nothing
 pub written-refused : (r : Refusal) (x : Ship) (b : List ℕ) → written (refused (numberOf r) (placeOf r)) x b ≡ b
-unfolding written pick
-written-refused r x b = rw (no-zero r) refl
+unfolding written
+written-refused r x b = beside-refusal r (recordBytes x ++ drop (recordLength (x .n)) b) b
 
-pub head-fits : (x : Ship) → x .kind ≤ 1 → x .n ≤ 8 → Good x → Fit headWidths (headFields x)
+pub head-fits : (x : Ship) → x .kind ≤ 1 → x .n ≤ 8 → Good x → Fit headWidths (headFields (shipHead x))
 head-fits x k n g = omega arith
 
 pub low : (x : Ship) → Good x → Low (housesOf x)

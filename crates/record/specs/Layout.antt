@@ -5,11 +5,14 @@ use mathlib.Core.List.{List, [], _∷_, _++_}
 use lib.ListN.{length, take, drop, getD, replicate}
 use lib.Dec.{eqb}
 use Rattle.bits.specs.Fields.{number, unpack, pack, bytes}
-use Rattle.units.specs.Datum.{sheerAt}
+use Rattle.units.specs.declared.Station.{Station}
+use Rattle.units.specs.declared.Ordinate.{Ordinate}
+use Rattle.units.specs.Datum.{datum, lift, sheerAt}
 use Rattle.ship.specs.declared.House.{House}
 use Rattle.ship.specs.declared.Ship.{Ship}
 use Rattle.ship.specs.Vessel as Vessel
 use Rattle.ship.specs.Vessel.{noHouse, housesOf}
+use Rattle.record.specs.declared.Head.{Head}
 
 -- version, type, houses n, spare; L, D, M, Cb, Cwf; six ordinates of sheer; displacement, immersion
 abbrev pub headWidths : List ℕ
@@ -19,28 +22,37 @@ headWidths = 4 ∷ 2 ∷ 4 ∷ 6 ∷ 20 ∷ 16 ∷ 16 ∷ 14 ∷ 14 ∷ 14 ∷ 1
 abbrev pub houseWidths : List ℕ
 houseWidths = 1 ∷ 1 ∷ 21 ∷ 21 ∷ 13 ∷ 7 ∷ []
 
--- two's complement of 21 bits as a station, whose datum is 2^20 mm abaft the after perpendicular; and back
-abbrev pub turn21 : ℕ → ℕ
-turn21 u = (u % 2097152 + 1048576) % 2097152
+-- 27 bytes, then 8 for each of n houses
+abbrev pub recordLength : ℕ → ℕ
+recordLength n = 27 + 8 * n
 
--- two's complement of 14 bits as an ordinate of sheer lifted by 8192 mm; and back
-abbrev pub turn14 : ℕ → ℕ
-turn14 u = (u % 16384 + 8192) % 16384
+-- two's complement as a number counted from the lowest: the two halves of the range change places; and back
+abbrev pub turn : ℕ → ℕ → ℕ
+turn half u = (u % (2 * half) + half) % (2 * half)
+
+-- a station is a field of 21 bits, an ordinate of sheer one of 14
+abbrev pub stationIn : ℕ → Station
+stationIn u = record { 0 = turn datum u }
+
+abbrev pub ordinateIn : ℕ → Ordinate
+ordinateIn u = record { 0 = turn lift u }
 
 abbrev pub bit : Bool → ℕ
 bit true = 1
 bit false = 0
 
 -- ---- a house in eight bytes
+-- its fields in the record's order
 abbrev pub houseFields : House → List ℕ
-houseFields h = bit (h .enclosed) ∷ bit (h .quarterdeck) ∷ turn21 (h .aft .0) ∷ turn21 (h .fore .0) ∷ h .height .0 ∷ 0 ∷ []
+houseFields h = bit (h .enclosed) ∷ bit (h .quarterdeck) ∷ turn datum (h .aft .0) ∷ turn datum (h .fore .0) ∷ h .height .0 ∷ 0 ∷ []
 
+-- and the house of such a list
 abbrev pub houseOf : List ℕ → House
 houseOf f = record {
   enclosed = eqb (getD f 0 0) 1;
   quarterdeck = eqb (getD f 1 0) 1;
-  aft = record { 0 = turn21 (getD f 2 0) };
-  fore = record { 0 = turn21 (getD f 3 0) };
+  aft = stationIn (getD f 2 0);
+  fore = stationIn (getD f 3 0);
   height = record { 0 = getD f 4 0 };
 }
 
@@ -72,54 +84,79 @@ pub record Low (hs : List House) : Type 0 where
   pub each : (k : ℕ) → k < length hs → Vessel.houseAt hs k .height .0 < 8192
 
 -- ---- the head in 27 bytes
-abbrev pub headFields : Ship → List ℕ
-headFields x =
-    1 ∷ x .kind ∷ x .n ∷ 0 ∷ x .length .0 ∷ x .depth .0 ∷ x .moulded .0 ∷ x .block ∷ x .waterplane
-    ∷ turn14 (sheerAt (x .sheer) 0) ∷ turn14 (sheerAt (x .sheer) 1) ∷ turn14 (sheerAt (x .sheer) 2)
-    ∷ turn14 (sheerAt (x .sheer) 3) ∷ turn14 (sheerAt (x .sheer) 4) ∷ turn14 (sheerAt (x .sheer) 5)
-    ∷ x .displacement ∷ x .immersion ∷ []
+-- its fields in the record's order
+abbrev pub headFields : Head → List ℕ
+headFields h =
+    h .version ∷ h .kind ∷ h .count ∷ h .spare
+    ∷ h .length .0 ∷ h .depth .0 ∷ h .moulded .0 ∷ h .block ∷ h .waterplane
+    ∷ turn lift (sheerAt (h .sheer) 0) ∷ turn lift (sheerAt (h .sheer) 1) ∷ turn lift (sheerAt (h .sheer) 2)
+    ∷ turn lift (sheerAt (h .sheer) 3) ∷ turn lift (sheerAt (h .sheer) 4) ∷ turn lift (sheerAt (h .sheer) 5)
+    ∷ h .displacement ∷ h .immersion ∷ []
 
-unfoldable pub headBytes : Ship → List ℕ
-headBytes x = bytes 27 (pack headWidths (headFields x))
-
-unfoldable pub headIn : List ℕ → List ℕ
-headIn s = unpack headWidths (number (take 27 s))
-
-abbrev pub version : List ℕ → ℕ
-version s = getD (headIn s) 0 0
-
-abbrev pub kind : List ℕ → ℕ
-kind s = getD (headIn s) 1 0
-
-abbrev pub count : List ℕ → ℕ
-count s = getD (headIn s) 2 0
-
-abbrev pub spare : List ℕ → ℕ
-spare s = getD (headIn s) 3 0
-
--- ---- the ship, places beyond n at zero
-abbrev pub shipOf : List ℕ → List House → Ship
-shipOf f hs = record {
+-- and the head of such a list
+abbrev pub headOf : List ℕ → Head
+headOf f = record {
+  version = getD f 0 0;
   kind = getD f 1 0;
-  n = getD f 2 0;
+  count = getD f 2 0;
+  spare = getD f 3 0;
   length = record { 0 = getD f 4 0 };
   depth = record { 0 = getD f 5 0 };
   moulded = record { 0 = getD f 6 0 };
   block = getD f 7 0;
   waterplane = getD f 8 0;
   sheer =
-      record { 0 = turn14 (getD f 9 0) } ∷ record { 0 = turn14 (getD f 10 0) } ∷ record { 0 = turn14 (getD f 11 0) }
-      ∷ record { 0 = turn14 (getD f 12 0) } ∷ record { 0 = turn14 (getD f 13 0) } ∷ record { 0 = turn14 (getD f 14 0) } ∷ [];
+      ordinateIn (getD f 9 0) ∷ ordinateIn (getD f 10 0) ∷ ordinateIn (getD f 11 0)
+      ∷ ordinateIn (getD f 12 0) ∷ ordinateIn (getD f 13 0) ∷ ordinateIn (getD f 14 0) ∷ [];
   displacement = getD f 15 0;
   immersion = getD f 16 0;
+}
+
+unfoldable pub headBytes : Head → List ℕ
+headBytes h = bytes 27 (pack headWidths (headFields h))
+
+unfoldable pub headIn : List ℕ → Head
+headIn s = headOf (unpack headWidths (number (take 27 s)))
+
+-- ---- the ship: its head and its houses
+-- the head of a ship's record
+abbrev pub shipHead : Ship → Head
+shipHead x = record {
+  version = 1;
+  kind = x .kind;
+  count = x .n;
+  spare = 0;
+  length = x .length;
+  depth = x .depth;
+  moulded = x .moulded;
+  block = x .block;
+  waterplane = x .waterplane;
+  sheer = x .sheer;
+  displacement = x .displacement;
+  immersion = x .immersion;
+}
+
+abbrev pub shipOf : Head → List House → Ship
+shipOf h hs = record {
+  kind = h .kind;
+  n = h .count;
+  length = h .length;
+  depth = h .depth;
+  moulded = h .moulded;
+  block = h .block;
+  waterplane = h .waterplane;
+  sheer = h .sheer;
+  displacement = h .displacement;
+  immersion = h .immersion;
   houses = hs;
 }
 
+-- the eight places of a record with n houses, those beyond n at zero
 unfoldable pub placesIn : ℕ → List ℕ → List House
 placesIn n s = housesIn n (drop 27 s) ++ replicate (8 - n) noHouse
 
 unfoldable pub shipIn : List ℕ → Ship
-shipIn s = shipOf (headIn s) (placesIn (count s) s)
+shipIn s = shipOf (headIn s) (placesIn (headIn s .count) s)
 
 unfoldable pub recordBytes : Ship → List ℕ
-recordBytes x = headBytes x ++ housesBytes (housesOf x)
+recordBytes x = headBytes (shipHead x) ++ housesBytes (housesOf x)

@@ -1,34 +1,38 @@
 -- 01, "Refusals and their order": reading uses 1 to 11.
-use Prim.Native.Nat.{ℕ, _+_, _*_}
-use mathlib.Core.Bool.{Bool, not, _||_}
+use Prim.Native.Nat.{ℕ, zero, suc, _+_}
+use mathlib.Core.Bool.{not}
 use mathlib.Core.List.{List, [], _∷_, _++_}
 use lib.ListN.{length}
 use lib.Dec.{eqb, ltb}
 use Rattle.whole.specs.Pick.{pick}
 use Rattle.ship.specs.declared.Ship.{Ship}
 use Rattle.ship.specs.Vessel.{noShip}
-use Rattle.ship.specs.Refusals.{Paper, Line, refused, paper, first}
-use Rattle.ship.specs.Checks.{firstFrom, shipLines}
-use Rattle.record.specs.declared.reader.Answer.{Answer}
-use Rattle.record.specs.Layout.{version, kind, count, spare, spareIn, houseAt, shipIn}
+use Rattle.ship.specs.Refusals.{Paper, Line, refused, first}
+use Rattle.ship.specs.Checks.{shipLines}
+use Rattle.record.specs.declared.Head.{Head}
+use Rattle.record.specs.Layout.{recordLength, headIn, spareIn, houseAt, shipIn}
 
--- whether the house at place k has a spare bit set
-unfoldable pub houseSpare : List ℕ → ℕ → Bool
-houseSpare s k = not (eqb (spareIn (houseAt s k)) 0)
+-- the spare bits of the first k houses, added up: 0 where none is set
+unfoldable pub sparesIn : List ℕ → ℕ → ℕ
+sparesIn s zero = 0
+sparesIn s (suc k) = sparesIn s k + spareIn (houseAt s k)
 
-unfoldable pub firstSpare : List ℕ → ℕ
-firstSpare s = firstFrom (houseSpare s) 0 (count s)
+-- 2 to 5: what the head of a record of so many bytes shows
+abbrev pub headLines : Head → ℕ → List Line
+headLines h bytes =
+    (not (eqb (h .version) 1), refused 2 0)
+    ∷ (ltb 1 (h .kind), refused 3 0)
+    ∷ (ltb 8 (h .count), refused 4 0)
+    ∷ (not (eqb bytes (recordLength (h .count))), refused 5 0)
+    ∷ []
+
+-- 6: a spare bit set, in the head or in a house
+abbrev pub spareLine : Head → List ℕ → Line
+spareLine h s = (not (eqb (h .spare + sparesIn s (h .count)) 0), refused 6 0)
 
 -- 1 to 6: what the bytes show before they are read as a ship
 abbrev pub frameLines : List ℕ → List Line
-frameLines s =
-    (ltb (length s) 27, refused 1 0)
-    ∷ (not (eqb (version s) 1), refused 2 0)
-    ∷ (ltb 1 (kind s), refused 3 0)
-    ∷ (ltb 8 (count s), refused 4 0)
-    ∷ (not (eqb (length s) (27 + 8 * count s)), refused 5 0)
-    ∷ (not (eqb (spare s) 0) || ltb (firstSpare s) (count s), refused 6 0)
-    ∷ []
+frameLines s = (ltb (length s) 27, refused 1 0) ∷ headLines (headIn s) (length s) ++ (spareLine (headIn s) s ∷ [])
 
 -- a reading in 01's own terms; beside a refusal the ship is zero
 pub record Reading : Type 0 where
@@ -41,7 +45,3 @@ readingOf p x = record { verdict = p; ship = pick (eqb (p .number) 0) x noShip }
 -- what any bytes read as
 unfoldable pub readingIn : List ℕ → Reading
 readingIn s = readingOf (first (frameLines s ++ shipLines (shipIn s))) (shipIn s)
-
--- an answer in 01's own terms
-abbrev pub shown : Answer → Reading
-shown a = record { verdict = paper (a .verdict); ship = a .ship }

@@ -1,5 +1,5 @@
 -- 01, "Refusals and their order": the writer uses 3, 4, 7 to 11 and 17; an accepted write changes the record's bytes only.
-use Prim.Native.Nat.{ℕ, _+_, _*_}
+use Prim.Native.Nat.{ℕ}
 use mathlib.Core.List.{List, [], _∷_, _++_}
 use lib.ListN.{drop}
 use lib.Dec.{eqb, ltb}
@@ -7,14 +7,14 @@ use Rattle.whole.specs.Pick.{pick}
 use Rattle.ship.specs.declared.Ship.{Ship}
 use Rattle.ship.specs.Refusals.{Paper, Line, refused, first}
 use Rattle.ship.specs.Checks.{shipLines}
-use Rattle.record.specs.Layout.{recordBytes}
+use Rattle.record.specs.Layout.{recordLength, recordBytes}
 
 abbrev pub writeLines : ℕ → Ship → List Line
 writeLines room x =
     (ltb 1 (x .kind), refused 3 0)
     ∷ (ltb 8 (x .n), refused 4 0)
     ∷ shipLines x
-    ++ ((ltb room (27 + 8 * x .n), refused 17 0) ∷ [])
+    ++ ((ltb room (recordLength (x .n)), refused 17 0) ∷ [])
 
 -- the verdict on writing a ship into a buffer of so many bytes
 unfoldable pub writingOf : ℕ → Ship → Paper
@@ -22,4 +22,4 @@ writingOf room x = first (writeLines room x)
 
 -- the buffer afterwards: the record, then what stood behind it; a refusal changes nothing
 unfoldable pub written : Paper → Ship → List ℕ → List ℕ
-written p x buf = pick (eqb (p .number) 0) (recordBytes x ++ drop (27 + 8 * x .n) buf) buf
+written p x buf = pick (eqb (p .number) 0) (recordBytes x ++ drop (recordLength (x .n)) buf) buf

@@ -1,4 +1,78 @@
-// The ship record, version 1: 27 bytes, then eight for each house.
-mod layout;
-pub mod reader;
-pub mod writer;
+// The layout of the ship record, version 1: a head, then the houses. Reader and writer take every position and width from here.
+ghost use mathlib.Core.Path.{_≡_};
+ghost use Prim.Native.Nat.{_*_, _≤_, _<_};
+ghost use Rattle.units.specs.Datum.{datum, lift};
+ghost use Rattle.record.specs.Layout.{turn};
+use units::AP;
+use units::LIFT;
+use units::Ordinate;
+use units::Span;
+use units::Station;
+
+pub mod after;
+pub mod range;
+pub mod width;
+
+// Bytes of the head, and of each house.
+pub const HEAD: usize = 27;
+
+pub const HOUSE: usize = 8;
+
+// The only version.
+pub const VERSION: u64 = 1;
+
+// What the head says, in the record's order.
+pub struct Head {
+    pub version: u64,
+    pub kind: u64,
+    pub count: u64,
+    pub spare: u64,
+    // L, D and M.
+    pub length: Span,
+    pub depth: Span,
+    pub moulded: Span,
+    // Cb and Cwf.
+    pub block: u64,
+    pub waterplane: u64,
+    // At AP, L/6, L/3 from AP, then L/3, L/6 from FP, FP.
+    pub sheer: [Ordinate; 6],
+    pub displacement: u64,
+    pub immersion: u64,
+}
+
+// ---- signed fields
+// Two's complement counts from 0 up and wraps to the negative half; stations and ordinates count from the lowest negative up.
+// So the two halves of the range change places, and change back the same way.
+fn turned(half: u64, u: u64) -> u64
+    requires { ⌜ (1 ≤ half) × (half ≤ 1048576) ⌝ }
+    ensures { λ r. ⌜ (r ≡ turn half u) × (r < 2 * half) ⌝ }
+{
+    let range = 2 * half;
+    (u % range + half) % range
+}
+
+// The station of a field of 21 bits.
+pub fn station_in(field: u64) -> Station
+    ensures { λ r. ⌜ r .0 ≡ turn datum field ⌝ }
+{
+    Station(turned(AP, field))
+}
+
+pub fn station_field(s: Station) -> u64
+    ensures { λ r. ⌜ (r ≡ turn datum (s .0)) × (r < 2 * datum) ⌝ }
+{
+    turned(AP, s.0)
+}
+
+// The ordinate of a field of 14 bits.
+pub fn ordinate_in(field: u64) -> Ordinate
+    ensures { λ r. ⌜ r .0 ≡ turn lift field ⌝ }
+{
+    Ordinate(turned(LIFT, field))
+}
+
+pub fn ordinate_field(o: Ordinate) -> u64
+    ensures { λ r. ⌜ (r ≡ turn lift (o .0)) × (r < 2 * lift) ⌝ }
+{
+    turned(LIFT, o.0)
+}

@@ -9,13 +9,12 @@ use lib.Dec.{eqb}
 use native.Mathlib.Omega.{arith}
 use Rattle.bits.specs.Fields.{number, pack, unpack, bytes, Fit, Bytes}
 use Rattle.bits.proofs.Radix.{read-written, written-read, fit-unpack, bytes-take, bytes-drop}
+use Rattle.units.specs.Datum.{datum}
 use Rattle.ship.specs.declared.House.{House}
 use Rattle.ship.specs.Vessel as Vessel
-use Rattle.record.specs.Layout.{houseWidths, houseFields, houseOf, houseBytes, houseIn, spareIn, housesBytes, housesIn, turn21, bit}
+use Rattle.record.specs.Layout.{houseWidths, houseFields, houseOf, houseBytes, houseIn, spareIn, housesBytes, housesIn, bit}
+use Rattle.record.proofs.Complement.{turn-turn}
 use Rattle.record.proofs.Parts.{length-houseBytes}
-
-turn-turn : (a : ℕ) → a < 2097152 → turn21 (turn21 a) ≡ a
-turn-turn a h = omega arith
 
 bit-back : (b : Bool) → eqb (bit b) 1 ≡ b
 bit-back true = refl
@@ -43,14 +42,14 @@ house-fields : (h : House) → Held h → houseOf (houseFields h) ≡ h
 house-fields h p = λ i. record {
   enclosed = bit-back (h .enclosed) i;
   quarterdeck = bit-back (h .quarterdeck) i;
-  aft = record { 0 = turn-turn (h .aft .0) (p .aft) i };
-  fore = record { 0 = turn-turn (h .fore .0) (p .fore) i };
+  aft = record { 0 = turn-turn datum (h .aft .0) (p .aft) i };
+  fore = record { 0 = turn-turn datum (h .fore .0) (p .fore) i };
   height = h .height;
 }
 
 fields-house : (a b c d e g : ℕ) → let f = a ∷ b ∷ c ∷ d ∷ e ∷ g ∷ [] in Fit houseWidths f → g ≡ 0 → houseFields (houseOf f) ≡ f
 fields-house a b c d e g w z =
-    λ i. bit-there a (w .0) i ∷ bit-there b (w .1 .0) i ∷ turn-turn c (w .1 .1 .0) i ∷ turn-turn d (w .1 .1 .1 .0) i ∷ e ∷ sym z i ∷ []
+    λ i. bit-there a (w .0) i ∷ bit-there b (w .1 .0) i ∷ turn-turn datum c (w .1 .1 .0) i ∷ turn-turn datum d (w .1 .1 .1 .0) i ∷ e ∷ sym z i ∷ []
 
 fields-back : (h : House) → h .height .0 < 8192 → unpack houseWidths (number (houseBytes h)) ≡ houseFields h
 unfolding houseBytes

@@ -16,10 +16,11 @@ use Rattle.ship.specs.Refusals.{Paper, accepted, refused, paper, first}
 use Rattle.ship.specs.Checks.{shipLines}
 use Rattle.ship.proofs.Lines.{all-pass, all-pass-split, first-passed}
 use Rattle.ship.proofs.OneToOne.{one-verdict}
-use Rattle.record.specs.declared.reader.Answer.{Answer}
-use Rattle.record.specs.Layout.{recordBytes}
-use Rattle.record.specs.Reading.{Reading, readingIn, shown}
+use Rattle.record.specs.Layout.{recordLength, recordBytes}
+use Rattle.record.specs.Reading.{Reading, readingIn}
 use Rattle.record.specs.Writing.{writeLines, writingOf, written}
+use Rattle.reader.specs.declared.Answer.{Answer}
+use Rattle.reader.specs.Answer.{shown}
 use Rattle.roundtrip.proofs.RoundTrip.{Shaped, read-back, write-back, length-there, writes-back}
 
 -- ---- reading a written record gives the ship back
@@ -28,7 +29,7 @@ module _ (x : Ship) (shaped : Shaped x) (room : ℕ) (wrote : writingOf room x �
   unfolding writingOf
   right =
       let p = all-pass (writeLines room x) (omega arith) (ap (λ (v : Paper). v .number) wrote) in
-      let r = all-pass-split (shipLines x) ((ltb room (27 + 8 * x .n), refused 17 0) ∷ []) (p .1 .1) in
+      let r = all-pass-split (shipLines x) ((ltb room (recordLength (x .n)), refused 17 0) ∷ []) (p .1 .1) in
       (ltb-false 1 (x .kind) (p .0), ltb-false 8 (x .n) (p .1 .0), first-passed (shipLines x) (r .0))
 
   -- places beyond n read as zero

@@ -8,7 +8,7 @@ use native.Mathlib.Nat.{zero-mul, zero-min}
 use Rattle.whole.specs.Frac.{Frac, _≤f_, _+f_, _*f_, _-f_, whole, frac}
 use Rattle.whole.specs.Round.{Within, Below}
 use Rattle.whole.proofs.Frac.{bot-of, refl≤, trans≤, +-mono≤, *-mono≤, sub-le}
-use Rattle.whole.proofs.Round.{loosen, sum, below-sum, less, by-ceil, by-floor, ceil-zero, floor-zero, near-above, near-below, near-times, near-min, near-ceil, near-floor, loosen-below}
+use Rattle.whole.proofs.Round.{near-self, loosen, sum, below-sum, less, by-ceil, by-floor, ceil-zero, floor-zero, near-times, near-min, near-ceil, near-floor}
 use Rattle.whole.proofs.Signed.{one-nought, one-side}
 use Rattle.units.specs.declared.Ordinate.{Ordinate}
 use Rattle.sheer.specs.Sheer.{afterSum, forwardSum, meanAbove, meanLacks, exactExcess, exactDeficiency, exactAddition, exactDeduction, excess, deficiency, addition, deduction, added, deducted, exactAdded, exactDeducted}
@@ -21,16 +21,17 @@ pub added-within : (o : List Ordinate) (L S : ℕ) → Within (added o L S) (exa
 unfolding added addition deficiency exactAdded exactAddition
 added-within o L S =
     loosen (trans≤ (+-mono≤ (*-mono≤ (refl≤ (whole 1)) (factor-most L S)) (refl≤ (whole 1))) (omega arith))
-    (near-ceil (near-times (frac 75 100 -f frac S (2 * L)) (near-above (by-ceil (exactDeficiency (afterSum o) (forwardSum o) L)))))
+    (near-ceil (near-times (frac 75 100 -f frac S (2 * L)) (by-ceil (exactDeficiency (afterSum o) (forwardSum o) L))))
 
 -- The deduction is never above the exact one, and at most 2 um below
 pub deducted-below : (o : List Ordinate) (L S reach : ℕ) → 0 < L → reach ≤ 2 * L → Below (deducted o L S reach) (exactDeducted o L S reach) (whole 2)
 unfolding deducted deduction excess exactDeducted exactDeduction
 deducted-below o L S reach h g =
     let c : frac reach (2 * L) ≤f whole 1 = record { le = rw (bot-of (2 * L) (omega arith)) (omega arith) } in
-    loosen-below (trans≤ (+-mono≤ (*-mono≤ (*-mono≤ (refl≤ (whole 1)) (factor-most L S)) c) (refl≤ (whole 1))) (omega arith))
-    (near-floor (near-min (frac 125 100 *f whole L)
-    (near-times (frac reach (2 * L)) (near-times (frac 75 100 -f frac S (2 * L)) (near-below (by-floor (exactExcess (afterSum o) (forwardSum o) L)))))))
+    loosen (trans≤ (+-mono≤ (*-mono≤ (*-mono≤ (refl≤ (whole 1)) (factor-most L S)) c) (refl≤ (whole 1))) (omega arith))
+    (near-floor (near-min
+    (near-times (frac reach (2 * L)) (near-times (frac 75 100 -f frac S (2 * L)) (by-floor (exactExcess (afterSum o) (forwardSum o) L))))
+    (near-self (frac 125 100 *f whole L) _)))
 
 -- one of the two is 0
 one-correction : (o : List Ordinate) (L S reach : ℕ)

@@ -2,3 +2,4 @@ pub mod First
 pub mod Lines
 pub mod Accepted
 pub mod OneToOne
+pub mod Passing

@@ -2,12 +2,14 @@
 use Prim.Native.Nat.{ℕ, _<_}
 use mathlib.Core.Bool.{Bool, true, false, _||_}
 use mathlib.Core.List.{List, [], _∷_, _++_}
-use mathlib.Core.Path.{_≡_, refl}
+use mathlib.Core.Path.{_≡_, refl, _∙_}
 use native.Mathlib.Omega.{arith}
 use lib.Dec.{eqb}
 use borrow.Author.Tests.{ne-eqb}
 use Rattle.whole.specs.Pick.{pick}
-use Rattle.ship.specs.Refusals.{Line, accepted, first}
+use Rattle.ship.specs.declared.refusal.Refusal.{Refusal}
+use Rattle.ship.specs.Refusals.{Line, accepted, refused, numberOf, placeOf, first}
+use Rattle.ship.proofs.OneToOne.{number-above-0}
 
 -- no line refuses by the number 0, which means acceptance
 abbrev pub Numbered : List Line → Type 0
@@ -53,6 +55,20 @@ first-append (t ∷ ts) us m = go (t .0) (first-append ts us (m .1))
         → pick b (t .1) (first (ts ++ us)) ≡ pick (eqb (pick b (t .1) (first ts) .number) 0) (first us) (pick b (t .1) (first ts))
     go true r = rw (ne-eqb (t .1 .number) 0 (λ z. omega (arith, m .0))) refl
     go false r = r
+
+-- beside a refusal stands what is there for it
+pub beside-refusal : {A : Type 0} (r : Refusal) (a b : A) → pick (eqb (numberOf r) 0) a b ≡ b
+unfolding pick
+beside-refusal r a b = rw (ne-eqb (numberOf r) 0 (λ z. omega (arith, number-above-0 r))) refl
+
+-- so lines that refuse hide those below them
+pub first-refused : (ts us : List Line) (r : Refusal) → Numbered ts → first ts ≡ refused (numberOf r) (placeOf r) → first (ts ++ us) ≡ refused (numberOf r) (placeOf r)
+first-refused ts us r m e = first-append ts us m ∙ rw e (beside-refusal r (first us) (refused (numberOf r) (placeOf r)))
+
+-- and lines that accept leave the verdict to them
+pub first-accepted : (ts us : List Line) → Numbered ts → first ts ≡ accepted → first (ts ++ us) ≡ first us
+unfolding pick
+first-accepted ts us m e = first-append ts us m ∙ rw e refl
 
 pub or-false : (a b : Bool) → (a || b) ≡ false → (a ≡ false) × (b ≡ false)
 or-false true b e = absurd (let z : _≡_ {A = ℕ} 0 1 = cc in omega arith)

@@ -1,8 +1,8 @@
 -- The bow's freeboard with signs is the one difference of bow's own definition, before it stops at zero.
-use mathlib.Core.Path.{_≡_, sym, ap, _∙_}
+use mathlib.Core.Path.{_≡_}
 use mathlib.Core.Bool.{Bool, true, false}
 use mathlib.Core.List.{List}
-use Prim.Native.Nat.{ℕ, suc, _+_, _*_, _-_, _≤_, _<_}
+use Prim.Native.Nat.{ℕ, suc, _+_, _*_}
 use native.Mathlib.Omega.{arith}
 use lib.Dec.{ltb}
 use Rattle.whole.specs.Pick.{pick}
@@ -11,10 +11,10 @@ use Rattle.whole.proofs.Pick.{same-test}
 use Rattle.units.specs.declared.Ordinate.{Ordinate}
 use Rattle.units.specs.Datum.{lift, sheerAt}
 use Rattle.bow.specs.Bow as Bow
-use Rattle.bow.proofs.Cubic.{cubic, cubic-sum}
-use Rattle.signed.specs.Signed.{Signed, _≈s_, _<s?_, plain, nil, _+s_, _-s_, _*s_}
+use Rattle.bow.proofs.Cubic.{cubic-sum}
+use Rattle.signed.specs.Signed.{_≈s_, _<s?_, plain, nil, _+s_, _-s_, _*s_}
 use Rattle.signed.specs.Formula.{ordinate, b1, b2, sheerTaken, bow}
-use Rattle.signed.proofs.Laws.{refl≈s, sym≈s, trans≈s, -s-same, *s-same, pick-same, plain-product, plain-less, both-parts}
+use Rattle.signed.proofs.Laws.{refl≈s, sym≈s, trans≈s, -s-same, *s-same, plain-product, plain-less, both-parts}
 
 -- ---- b1 is never below zero
 last-taken : (x y z : Frac) → plain x -s plain y +s plain z ≈s plain (x +f z) -s plain y

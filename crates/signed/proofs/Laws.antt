@@ -1,32 +1,34 @@
 -- Laws of specs/Signed.antt.
-use mathlib.Core.Path.{_≡_, refl, sym, ap, _∙_}
-use mathlib.Core.Bool.{Bool, true, false, not}
-use Prim.Native.Nat.{ℕ, suc, _+_, _*_, _-_, _≤_, _<_}
+use mathlib.Core.Path.{_≡_, sym, ap, _∙_}
+use mathlib.Core.Bool.{true, false, not}
+use Prim.Native.Nat.{ℕ, _+_, _*_, _≤_, _<_}
 use native.Mathlib.Omega.{arith}
-use native.Mathlib.Nat.{mul-pos, mul-le-mul-right, mul-lt-mul-of-pos-right, le-of-mul-le-mul-right, lt-of-mul-lt-mul-right, le-of-lt}
+use native.Mathlib.Nat.{mul-pos, mul-le-mul-right, le-of-mul-le-mul-right, le-of-lt}
 use native.Mathlib.Decide.{decLt}
 use borrow.Author.Tests.{leb-true, leb-false, le-leb, lt-leb, le-ltb, lt-ltb, not-true, not-false}
-use lib.Dec.{leb, ltb}
-use Rattle.whole.specs.Pick.{pick}
 use Rattle.whole.specs.Frac.{Frac, _≤f_, _≈f_, _+f_, _*f_, _-f_, _÷f_, maxf, minf, whole}
 use Rattle.whole.proofs.Pick.{same-test, by-cases}
 use Rattle.whole.proofs.Divide.{sub-mul}
 use Rattle.whole.proofs.Frac.{bot-of, refl≤, both≤, min-left, min-right, min-greatest, max-left, max-right, max-least}
-use Rattle.signed.specs.Signed.{Signed, _≈s_, _≤s_, _≤s?_, _<s?_, plain, nil, _+s_, _-s_, _*s_, _÷s_, maxs, mins}
+use Rattle.signed.specs.Signed.{Signed, _≈s_, _≤s?_, _<s?_, plain, nil, _+s_, _-s_, _*s_, _÷s_, maxs, mins}
 
+infix 50 _≤s_
 -- ---- order
-pub refls : (x : Signed) → x ≤s x
-refls x = omega arith
+pub record _≤s_ (x y : Signed) : Type 0 where
+  pub le : x .plus * y .bot + y .minus * x .bot ≤ y .plus * x .bot + x .minus * y .bot
 
-pub transs : {x y z : Signed} → x ≤s y → y ≤s z → x ≤s z
-transs {x} {y} {z} h k =
+pub refl≤s : (x : Signed) → x ≤s x
+refl≤s x = omega arith
+
+pub trans≤s : {x y z : Signed} → x ≤s y → y ≤s z → x ≤s z
+trans≤s {x} {y} {z} h k =
     record { le = le-of-mul-le-mul-right {k = y .bot} (omega (arith, mul-le-mul-right (z .bot) (h .le), mul-le-mul-right (x .bot) (k .le))) (y .pos) }
 
-pub sames : {x y : Signed} → x ≈s y → x ≤s y
-sames h = omega arith
+pub same≤s : {x y : Signed} → x ≈s y → x ≤s y
+same≤s h = omega arith
 
-pub boths : {x y : Signed} → x ≤s y → y ≤s x → x ≈s y
-boths h k = omega arith
+pub both≤s : {x y : Signed} → x ≤s y → y ≤s x → x ≈s y
+both≤s h k = omega arith
 
 -- ---- equal in value, and that every operation and test keeps it
 pub refl≈s : (x : Signed) → x ≈s x
@@ -36,7 +38,7 @@ pub sym≈s : {x y : Signed} → x ≈s y → y ≈s x
 sym≈s h = omega arith
 
 pub trans≈s : {x y z : Signed} → x ≈s y → y ≈s z → x ≈s z
-trans≈s h k = boths (transs (sames h) (sames k)) (transs (sames (sym≈s k)) (sames (sym≈s h)))
+trans≈s h k = both≤s (trans≤s (same≤s h) (same≤s k)) (trans≤s (same≤s (sym≈s k)) (same≤s (sym≈s h)))
 
 -- each in its first place, and turned
 +s-left : {x y : Signed} (z : Signed) → x ≈s y → x +s z ≈s y +s z
@@ -70,8 +72,8 @@ pub *s-same : {x y z w : Signed} → x ≈s y → z ≈s w → x *s z ≈s y *s 
 pub ≤s?-same : {x y z w : Signed} → x ≈s y → z ≈s w → (x ≤s? z) ≡ (y ≤s? w)
 ≤s?-same {x} {y} {z} {w} h k =
     same-test _ _ _ _
-    (λ t. transs (sames (sym≈s h)) (transs (record { le = t }) (sames k)) .le)
-    (λ t. transs (sames h) (transs (record { le = t }) (sames (sym≈s k))) .le)
+    (λ t. trans≤s (same≤s (sym≈s h)) (trans≤s (record { le = t }) (same≤s k)) .le)
+    (λ t. trans≤s (same≤s h) (trans≤s (record { le = t }) (same≤s (sym≈s k))) .le)
 
 -- what a test tells
 pub is≤ : {x y : Signed} → (x ≤s? y) ≡ true → x ≤s y
@@ -101,11 +103,11 @@ pub <s?-same : {x y z w : Signed} → x ≈s y → z ≈s w → (x <s? z) ≡ (y
 -- ---- the greater and the lesser
 pub maxs-left : (x y : Signed) → x ≤s maxs x y
 unfolding maxs
-maxs-left x y = by-cases (λ (t : Signed). x ≤s t) (x ≤s? y) y x (λ t. is≤ t) (λ t. refls x)
+maxs-left x y = by-cases (λ (t : Signed). x ≤s t) (x ≤s? y) y x (λ t. is≤ t) (λ t. refl≤s x)
 
 pub maxs-right : (x y : Signed) → y ≤s maxs x y
 unfolding maxs
-maxs-right x y = by-cases (λ (t : Signed). y ≤s t) (x ≤s? y) y x (λ t. refls y) (λ t. not≤ t)
+maxs-right x y = by-cases (λ (t : Signed). y ≤s t) (x ≤s? y) y x (λ t. refl≤s y) (λ t. not≤ t)
 
 pub maxs-least : {x y z : Signed} → x ≤s z → y ≤s z → maxs x y ≤s z
 unfolding maxs
@@ -113,17 +115,17 @@ maxs-least {x} {y} {z} h k = by-cases (λ (t : Signed). t ≤s z) (x ≤s? y) y 
 
 pub maxs-same : {x y z w : Signed} → x ≈s y → z ≈s w → maxs x z ≈s maxs y w
 maxs-same {x} {y} {z} {w} h k =
-    boths
-    (maxs-least (transs (sames h) (maxs-left y w)) (transs (sames k) (maxs-right y w)))
-    (maxs-least (transs (sames (sym≈s h)) (maxs-left x z)) (transs (sames (sym≈s k)) (maxs-right x z)))
+    both≤s
+    (maxs-least (trans≤s (same≤s h) (maxs-left y w)) (trans≤s (same≤s k) (maxs-right y w)))
+    (maxs-least (trans≤s (same≤s (sym≈s h)) (maxs-left x z)) (trans≤s (same≤s (sym≈s k)) (maxs-right x z)))
 
 mins-left : (x y : Signed) → mins x y ≤s x
 unfolding mins
-mins-left x y = by-cases (λ (t : Signed). t ≤s x) (x ≤s? y) x y (λ t. refls x) (λ t. not≤ t)
+mins-left x y = by-cases (λ (t : Signed). t ≤s x) (x ≤s? y) x y (λ t. refl≤s x) (λ t. not≤ t)
 
 mins-right : (x y : Signed) → mins x y ≤s y
 unfolding mins
-mins-right x y = by-cases (λ (t : Signed). t ≤s y) (x ≤s? y) x y (λ t. is≤ t) (λ t. refls y)
+mins-right x y = by-cases (λ (t : Signed). t ≤s y) (x ≤s? y) x y (λ t. is≤ t) (λ t. refl≤s y)
 
 mins-greatest : {x y z : Signed} → z ≤s x → z ≤s y → z ≤s mins x y
 unfolding mins
@@ -131,18 +133,13 @@ mins-greatest {x} {y} {z} h k = by-cases (λ (t : Signed). z ≤s t) (x ≤s? y)
 
 pub mins-same : {x y z w : Signed} → x ≈s y → z ≈s w → mins x z ≈s mins y w
 mins-same {x} {y} {z} {w} h k =
-    boths
-    (mins-greatest (transs (mins-left x z) (sames h)) (transs (mins-right x z) (sames k)))
-    (mins-greatest (transs (mins-left y w) (sames (sym≈s h))) (transs (mins-right y w) (sames (sym≈s k))))
+    both≤s
+    (mins-greatest (trans≤s (mins-left x z) (same≤s h)) (trans≤s (mins-right x z) (same≤s k)))
+    (mins-greatest (trans≤s (mins-left y w) (same≤s (sym≈s h))) (trans≤s (mins-right y w) (same≤s (sym≈s k))))
 
 -- a factor that is not below zero keeps the order
 pub times-plain : {x y : Signed} (k : Frac) → x ≤s y → x *s plain k ≤s y *s plain k
 times-plain k h = omega (arith, mul-le-mul-right (k .top * k .bot) (h .le))
-
-pub pick-same : (b : Bool) {x y z w : Signed} → (b ≡ true → x ≈s z) → (b ≡ false → y ≈s w) → pick b x y ≈s pick b z w
-unfolding pick
-pick-same true h k = h refl
-pick-same false h k = k refl
 
 -- ---- fractions as they are
 pub plain-same : {x y : Frac} → x ≈f y → plain x ≈s plain y
@@ -151,14 +148,8 @@ plain-same h = omega arith
 pub plain-back : {x y : Frac} → plain x ≈s plain y → x ≈f y
 plain-back h = omega arith
 
-pub plain-order : {x y : Frac} → x ≤f y → plain x ≤s plain y
-plain-order h = omega arith
-
 pub order-plain : {x y : Frac} → plain x ≤s plain y → x ≤f y
 order-plain h = omega arith
-
-pub plain-sum : (x y : Frac) → plain (x +f y) ≈s plain x +s plain y
-plain-sum x y = omega arith
 
 pub plain-product : (x y : Frac) → plain (x *f y) ≈s plain x *s plain y
 plain-product x y = omega arith
@@ -246,16 +237,16 @@ times-max {z} x y k h g = by-cases (λ (t : Signed). t *s plain k ≤s z) (x ≤
 floor-hides : (n k : Frac) (x y : Signed) → maxs (plain n) (maxs (maxs nil x) (maxs nil y) *s plain k) ≈s maxs (plain n) (maxs x y *s plain k)
 floor-hides n k x y =
     let r = maxs (plain n) (maxs x y *s plain k) in
-    let z : nil *s plain k ≤s r = transs {y = plain n} (omega arith) (maxs-left (plain n) (maxs x y *s plain k)) in
+    let z : nil *s plain k ≤s r = trans≤s {y = plain n} (omega arith) (maxs-left (plain n) (maxs x y *s plain k)) in
     let m = maxs-right (plain n) (maxs x y *s plain k) in
     let d = maxs (maxs nil x) (maxs nil y) in
-    boths
+    both≤s
     (maxs-least (maxs-left (plain n) (maxs x y *s plain k))
-    (times-max (maxs nil x) (maxs nil y) k (times-max nil x k z (transs (times-plain k (maxs-left x y)) m)) (times-max nil y k z (transs (times-plain k (maxs-right x y)) m))))
+    (times-max (maxs nil x) (maxs nil y) k (times-max nil x k z (trans≤s (times-plain k (maxs-left x y)) m)) (times-max nil y k z (trans≤s (times-plain k (maxs-right x y)) m))))
     (maxs-least (maxs-left (plain n) (d *s plain k))
-    (transs
+    (trans≤s
     (times-plain k
-    (maxs-least (transs (maxs-right nil x) (maxs-left (maxs nil x) (maxs nil y))) (transs (maxs-right nil y) (maxs-right (maxs nil x) (maxs nil y)))))
+    (maxs-least (trans≤s (maxs-right nil x) (maxs-left (maxs nil x) (maxs nil y))) (trans≤s (maxs-right nil y) (maxs-right (maxs nil x) (maxs nil y)))))
     (maxs-right (plain n) (d *s plain k))))
 
 pub held : (n k x y z w : Frac) (s t : Signed) → s ≈s plain x -s plain y → t ≈s plain z -s plain w

@@ -1,22 +1,21 @@
 -- Sheer with signs is the exact addition less the exact deduction of sheer's own definitions.
-use mathlib.Core.Path.{_≡_, refl, sym, ap, _∙_}
+use mathlib.Core.Path.{_≡_, refl, sym, _∙_}
 use mathlib.Core.Bool.{Bool, true, false, _&&_}
 use mathlib.Core.List.{List}
-use Prim.Native.Nat.{ℕ, suc, _+_, _*_, _-_, _≤_, _<_}
+use Prim.Native.Nat.{ℕ, suc, _+_, _*_, _≤_, _<_}
 use native.Mathlib.Omega.{arith}
 use native.Mathlib.Nat.{mul-le-mul-right, zero-mul, zero-min}
 use Rattle.whole.specs.Pick.{pick}
 use Rattle.whole.specs.Frac.{Frac, _≤f_, _≈f_, _<f?_, _+f_, _*f_, _-f_, _÷f_, minf, whole, frac}
 use Rattle.whole.proofs.Pick.{same-test, by-cases}
-use Rattle.whole.proofs.Divide.{sub-mul}
 use Rattle.whole.proofs.Frac.{bot-of, both≤, refl≤, trans≤, refl≈, sym≈, trans≈, *-same, sub-le, min-left, min-right, min-greatest}
 use Rattle.units.specs.declared.Ordinate.{Ordinate}
-use Rattle.units.specs.Datum.{lift, sheerAt}
+use Rattle.units.specs.Datum.{lift}
 use Rattle.sheer.specs.Sheer as Sheer
 use Rattle.sheer.proofs.Words.{standard-pos}
-use Rattle.signed.specs.Signed.{Signed, _≈s_, _≤s_, _≤s?_, _<s?_, plain, nil, _+s_, _-s_, _*s_, _÷s_, mins}
+use Rattle.signed.specs.Signed.{Signed, _≈s_, _≤s?_, _<s?_, plain, nil, _-s_, _*s_, _÷s_}
 use Rattle.signed.specs.Formula.{ordinate, weighted, afterSum, forwardSum, excess, afterCounts, share, forwardCounts, meanOf, mean, factor, bySheer}
-use Rattle.signed.proofs.Laws.{sames, transs, refl≈s, sym≈s, trans≈s, +s-same, -s-same, *s-same, <s?-same, mins-same, is≤, not≤, is<, not<, pick-same, plain-same, plain-back, plain-order, plain-product, plain-lesser, plain-less, both-parts, nought, less-nil, less-both, from-nil, two-differences, difference-times, ÷s-same, plain-over, over-most, over-least, le-less}
+use Rattle.signed.proofs.Laws.{_≤s_, same≤s, trans≤s, refl≈s, sym≈s, trans≈s, +s-same, -s-same, *s-same, <s?-same, mins-same, is≤, not≤, is<, not<, plain-same, plain-back, plain-product, plain-lesser, plain-less, both-parts, nought, less-nil, less-both, from-nil, two-differences, difference-times, ÷s-same, plain-over, over-most, over-least, le-less}
 
 -- ---- the sums, of which sheer's own are lifted
 abbrev lowered : ℕ → Signed
@@ -55,11 +54,11 @@ module _ (sum : Signed) (n : ℕ) (w : Frac) (h : sum ≈s lowered n) where
 
   none-lacks : nil ≤s excess sum w → Sheer.lacks n w .top ≡ 0
   unfolding Sheer.lacks
-  none-lacks t = let g = transs t (sames from-standard) in omega arith
+  none-lacks t = let g = trans≤s t (same≤s from-standard) in omega arith
 
   none-above : excess sum w ≤s nil → Sheer.above n w .top ≡ 0
   unfolding Sheer.above
-  none-above t = let g = transs (sames (sym≈s from-standard)) t in omega arith
+  none-above t = let g = trans≤s (same≤s (sym≈s from-standard)) t in omega arith
 
   -- ---- the share: from 75%, at 50% or less, and between
   share-whole : 0 < w .top → plain (frac 75 100 *f w) ≤s sum → plain (whole 1) ≈s plain (Sheer.forwardShare n w)
@@ -68,7 +67,7 @@ module _ (sum : Signed) (n : ℕ) (w : Frac) (h : sum ≈s lowered n) where
       let q = frac 25 100 *f w in
       let y = Sheer.lifted (frac 50 100 *f w) in
       let d = whole n -f y in
-      let g = transs t (sames h) in
+      let g = trans≤s t (same≤s h) in
       let u : q +f y ≤f whole n = omega (arith, mul-le-mul-right (w .bot) (g .le)) in
       plain-same (both≤ (min-greatest (refl≤ (whole 1)) (over-least d q (omega arith) (le-less (whole n) y q u))) (min-left (whole 1) (d ÷f q)))
 
@@ -78,7 +77,7 @@ module _ (sum : Signed) (n : ℕ) (w : Frac) (h : sum ≈s lowered n) where
       let q = frac 25 100 *f w in
       let y = Sheer.lifted (frac 50 100 *f w) in
       let d = whole n -f y in
-      let g = transs (sames (sym≈s h)) t in
+      let g = trans≤s (same≤s (sym≈s h)) t in
       let e : d .top ≡ 0 = omega arith in
       let z : (d ÷f q) .top ≡ 0 = rw (e, zero-mul) in
       plain-same (both≤ (omega arith) (trans≤ (min-right (whole 1) (d ÷f q)) (omega (arith, z))))
@@ -91,8 +90,8 @@ module _ (sum : Signed) (n : ℕ) (w : Frac) (h : sum ≈s lowered n) where
       let v = frac 50 100 *f w in
       let y = Sheer.lifted v in
       let d = whole n -f y in
-      let g = transs t (sames h) in
-      let k = transs (sames (sym≈s h)) u in
+      let g = trans≤s t (same≤s h) in
+      let k = trans≤s (same≤s (sym≈s h)) u in
       let low : y ≤f whole n = omega arith in
       let high : whole n ≤f q +f y = omega (arith, mul-le-mul-right (w .bot) (k .le)) in
       let e : sum -s plain v ≈s plain d = trans≈s (-s-same h (refl≈s (plain v))) (trans≈s (less-both (whole n) (whole (7 * lift)) v) (sym≈s (plain-less (whole n) y low))) in
@@ -110,7 +109,7 @@ module _ (sum : Signed) (n : ℕ) (w : Frac) (h : sum ≈s lowered n) where
   -- where nothing is lacking it is whole
   unshared : 0 < w .top → nil ≤s excess sum w → Sheer.forwardShare n w ≈f whole 1
   unfolding excess
-  unshared p t = let g : plain w ≤s sum = omega arith in sym≈ (plain-back (share-whole p (transs (omega arith) g)))
+  unshared p t = let g : plain w ≤s sum = omega arith in sym≈ (plain-back (share-whole p (trans≤s (omega arith) g)))
 
 -- ---- what counts of each half: p above and q lacking, of which one is 0
 after-counts : (b c : Bool) (a : Signed) (p q : Frac) → a ≈s plain p -s plain q → (b ≡ true → q .top ≡ 0) → (b ≡ false → p .top ≡ 0)
@@ -177,7 +176,7 @@ by-sheer m x y L S reach p s h =
     let k = factor-plain L S p s in
     by-cases (λ (t : Signed). t ≈s plain add -s plain take) (m <s? nil) _ _
     (λ t.
-    let g : plain x -s plain y ≤s nil = transs (sames (sym≈s h)) (is< t) in
+    let g : plain x -s plain y ≤s nil = trans≤s (same≤s (sym≈s h)) (is< t) in
     let u : x ≤f y = omega arith in
     let z : (x -f y) .top ≡ 0 = omega arith in
     let e : nil -s m ≈s plain (y -f x) =
@@ -186,7 +185,7 @@ by-sheer m x y L S reach p s h =
     (trans≈s (sym≈s (plain-product (y -f x) f))
     (trans≈s (sym≈s (less-nil (plain add))) (-s-same (refl≈s (plain add)) (sym≈s (nought {x = take} (rw (z, zero-mul, zero-mul, zero-mul, zero-min))))))))
     (λ t.
-    let g : nil ≤s plain x -s plain y = transs (not< t) (sames h) in
+    let g : nil ≤s plain x -s plain y = trans≤s (not< t) (same≤s h) in
     let u : y ≤f x = omega arith in
     let z : (y -f x) .top ≡ 0 = omega arith in
     let e : m ≈s plain (x -f y) = trans≈s h (sym≈s (plain-less x y u)) in

@@ -1,5 +1,5 @@
 -- Demand 2's exact value is 01's formula worked with signed fractions and then held to the floor.
-use Prim.Native.Nat.{ℕ, _+_, _≤_}
+use Prim.Native.Nat.{_+_, _≤_}
 use native.Mathlib.Omega.{arith}
 use Rattle.whole.specs.Frac.{_+f_, _*f_, whole, frac}
 use Rattle.units.specs.Datum.{lift, sheerAt}
@@ -16,7 +16,7 @@ use Rattle.bow.specs.Bow as Bow
 use Rattle.mark.specs.Exact.{exactSummer}
 use Rattle.marks.specs.Steps.{Sound, typeB, coveredS, forecastleHouse, coverReach, basis}
 use Rattle.marks.specs.Exact.{exactE, exactAddedTo, exactTakenFrom, exactBowOf, exactSummerOf}
-use Rattle.signed.specs.Signed.{_≈s_, plain, _+s_, _-s_}
+use Rattle.signed.specs.Signed.{_≈s_, plain, _-s_}
 use Rattle.signed.specs.Summer.{corrected, bowOf, signedSummerOf}
 use Rattle.signed.proofs.Laws.{refl≈s, trans≈s, +s-same, two-differences, held}
 use Rattle.signed.proofs.Sheer.{sheer-signed}

@@ -1,5 +1,5 @@
 -- Signed fractions, for values that may be below zero: plus less minus, over a bottom that is known to be positive.
-use Prim.Native.Nat.{ℕ, suc, pred, _+_, _*_, _≤_, _<_}
+use Prim.Native.Nat.{ℕ, suc, pred, _+_, _*_, _<_}
 use mathlib.Core.Path.{_≡_}
 use mathlib.Core.Bool.{Bool}
 use native.Mathlib.Omega.{arith}
@@ -8,7 +8,7 @@ use lib.Dec.{leb, ltb}
 use Rattle.whole.specs.Pick.{pick}
 use Rattle.whole.specs.Frac.{Frac, whole}
 
-infix 50 _≈s_ _≤s_ _≤s?_ _<s?_
+infix 50 _≈s_ _≤s?_ _<s?_
 infixl 65 _+s_ _-s_
 infixl 70 _*s_ _÷s_
 pub record Signed : Type 0 where
@@ -21,10 +21,7 @@ pub record Signed : Type 0 where
 pub record _≈s_ (x y : Signed) : Type 0 where
   pub eq : x .plus * y .bot + y .minus * x .bot ≡ y .plus * x .bot + x .minus * y .bot
 
-pub record _≤s_ (x y : Signed) : Type 0 where
-  pub le : x .plus * y .bot + y .minus * x .bot ≤ y .plus * x .bot + x .minus * y .bot
-
--- the same order as a test, and its strict one
+-- the order, and the strict one, as tests
 abbrev pub _≤s?_ : Signed → Signed → Bool
 x ≤s? y = leb (x .plus * y .bot + y .minus * x .bot) (y .plus * x .bot + x .minus * y .bot)
 

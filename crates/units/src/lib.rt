@@ -151,7 +151,15 @@ pub fn mm_below(o: Ordinate) -> u64
     whole::less(LIFT, o.0)
 }
 
-// ---- effective lengths and freeboards
+// ---- lengths, effective lengths and freeboards
+// The length of `k` decimetres.
+pub fn span_of_dm(k: u64) -> Span
+    requires { ⌜ k ≤ 2 ^ 32 ⌝ }
+    ensures { λ r. ⌜ r .0 ≡ 100 * k ⌝ }
+{
+    Span(100 * k)
+}
+
 // A length in micrometres.
 pub fn effective_of(l: Span) -> Effective
     requires { ⌜ l .0 ≤ 1048575 ⌝ }

@@ -7,7 +7,7 @@ use native.Mathlib.Nat.{mul-pos, mul-le-mul, mul-le-mul-right, mul-lt-mul-of-pos
 use Rattle.whole.specs.Pick.{pick}
 use Rattle.whole.proofs.Pick.{same-test}
 use Rattle.whole.proofs.Divide.{sub-mul, max-mul, min-mul}
-use Rattle.whole.specs.Frac.{Frac, _≤f_, _<f_, _≈f_, _≤f?_, _<f?_, whole, frac, _+f_, _*f_, _-f_, _÷f_, maxf, minf}
+use Rattle.whole.specs.Frac.{Frac, _≤f_, _<f_, _≈f_, _<f?_, whole, frac, _+f_, _*f_, _-f_, _÷f_, maxf, minf}
 
 pub bot-of : (d : ℕ) → 0 < d → suc (pred d) ≡ d
 bot-of (suc d) h = refl
@@ -109,12 +109,6 @@ pub ÷-same : {x y z w : Frac} → 0 < z .top → 0 < w .top → x ≈f y → z 
       eq = rw (bot-of (x .bot * z .top) (mul-pos (x .pos) h), bot-of (y .bot * w .top) (mul-pos (y .pos) k))
           (omega (arith, ap₂ _*_ (p .eq) (sym (q .eq))));
     }
-
-pub ≤?-same : {x y z w : Frac} → x ≈f y → z ≈f w → (x ≤f? z) ≡ (y ≤f? w)
-≤?-same {x} {y} {z} {w} h k =
-    same-test (x .top * z .bot) (z .top * x .bot) (y .top * w .bot) (w .top * y .bot)
-    (λ t. trans≤ (same (sym≈ h)) (trans≤ (record { le = t }) (same k)) .le)
-    (λ t. trans≤ (same h) (trans≤ (record { le = t }) (same (sym≈ k))) .le)
 
 pub <?-same : {x y z w : Frac} → x ≈f y → z ≈f w → (x <f? z) ≡ (y <f? w)
 <?-same {x} {y} {z} {w} h k =

@@ -22,6 +22,12 @@ unfolding pick
 by-cases P true x y h g = h refl
 by-cases P false x y h g = g refl
 
+-- and a relation of each arm's two is one of the two choices
+pub by-both : {A B : Type 0} (R : A → B → Type 0) (b : Bool) (x y : A) (z w : B) → (b ≡ true → R x z) → (b ≡ false → R y w) → R (pick b x y) (pick b z w)
+unfolding pick
+by-both R true x y z w h g = h refl
+by-both R false x y z w h g = g refl
+
 -- two tests that follow from each other are one; for `ltb a b`, which is `leb (suc a) b`, with `suc a` and `suc c`
 pub same-test : (a b c d : ℕ) → (a ≤ b → c ≤ d) → (c ≤ d → a ≤ b) → leb a b ≡ leb c d
 same-test a b c d f g =

@@ -8,7 +8,7 @@ use native.Mathlib.Nat.{mul-le-mul-left, mul-le-mul-right, mul-comm, zero-sub, m
 use lib.ListN.{length, getD}
 use Rattle.whole.proofs.Divide.{min-mul, sub-mul}
 use Rattle.whole.specs.Frac.{Frac, _≤f_, _≈f_, _+f_, _*f_, _-f_, whole}
-use Rattle.whole.proofs.Round.{Near}
+use Rattle.whole.specs.Round.{Near}
 use Rattle.whole.specs.Row.{Rises, Rising, gain, height, heightIn, along}
 
 -- ---- the four laws of the gain, each by induction over the segments
@@ -152,4 +152,4 @@ along-in {row = row} r j x h k l =
     rw (e, f) (omega arith)
 
 pub near-along : {m M : ℕ} {row : List ℕ} {x y s : Frac} → Rising m M row → Near x y s → Near (along row x) (along row y) (whole m *f s)
-near-along {row = row} {x} {y} {s} r n = record { low = along-mono row (n .low); high = along-steep r x y s (n .high) }
+near-along {row = row} {x} {y} {s} r n = record { above = along-mono row (n .above); close = along-steep r x y s (n .close) }

@@ -5,10 +5,10 @@ use mathlib.Core.Bool.{Bool}
 use Prim.Native.Nat.{ℕ, suc, pred, _+_, _*_, _-_, _/_, _≤_, _<_, min, max}
 use native.Mathlib.Omega.{arith}
 use native.Mathlib.Nat.{mul-pos}
-use lib.Dec.{leb, ltb}
+use lib.Dec.{ltb}
 use Rattle.whole.specs.Divide.{ceilDiv}
 
-infix 50 _≤f_ _<f_ _≈f_ _≤f?_ _<f?_
+infix 50 _≤f_ _<f_ _≈f_ _<f?_
 infixl 65 _+f_ _-f_
 infixl 70 _*f_ _÷f_
 pub record Frac : Type 0 where
@@ -26,10 +26,7 @@ pub record _<f_ (x y : Frac) : Type 0 where
 pub record _≈f_ (x y : Frac) : Type 0 where
   pub eq : x .top * y .bot ≡ y .top * x .bot
 
--- the same orders as tests
-abbrev pub _≤f?_ : Frac → Frac → Bool
-x ≤f? y = leb (x .top * y .bot) (y .top * x .bot)
-
+-- the order as a test
 abbrev pub _<f?_ : Frac → Frac → Bool
 x <f? y = ltb (x .top * y .bot) (y .top * x .bot)
 

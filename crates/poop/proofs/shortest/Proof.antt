@@ -4,18 +4,19 @@ use mathlib.Core.Path.{_≡_, sym, _∙_}
 use lib.ListN.{length, length-map}
 use native.Mathlib.Nat.{sub-zero}
 use native.Mathlib.Omega.{arith}
+use borrow.Author.Needs.{needs}
 use Rattle.poop.specs.Standing.{fitsOn}
 use Rattle.poop.specs.Question.{shortestFrom, shortestFor}
 use Rattle.poop.proofs.Search.{hit, miss, end}
-use Rattle.poop.proofs.Standing.{length-stands, fair-at, searched}
+use Rattle.poop.proofs.Standing.{length-stands, searched}
 use Rattle.poop.proofs.shortest.Statement.{statement}
 use Rattle.poop.proofs.shortest.Tie as tie
 
 abbrev Inv-loop : tie.InvT-loop
-Inv-loop height wish q l k₀ k = (k ≤ l / 100 + 1) × (shortestFrom (fitsOn q) (l / 100 + 1 - k) k ≡ shortestFrom (fitsOn q) (l / 100 + 1) 0)
+Inv-loop wish q l k₀ k = (k ≤ l / 100 + 1) × (shortestFrom (fitsOn q) (l / 100 + 1 - k) k ≡ shortestFrom (fitsOn q) (l / 100 + 1) 0)
 
 abbrev μ-loop : tie.MeasureT-loop
-μ-loop height wish q l k₀ k = l / 100 + 1 - k
+μ-loop wish q l k₀ k = l / 100 + 1 - k
 
 -- a ship has eight places
 eight : (s : tie.Start Inv-loop μ-loop) → length (s .args .x .houses) ≡ 8
@@ -24,11 +25,11 @@ eight s = simp length-map at (s .good .0 .1 .1 .1 .1 .1 .1 .1 .1 .1 .1 .1 .1 .0 
 -- the search by what stays the same is the search
 whole : (a : tie.After-standing-of Inv-loop μ-loop)
     → let x = a .before .args .x in
-    shortestFrom (fitsOn (a .standing-of .result)) (x .length .0 / 100 + 1) 0 ≡ shortestFor x (a .before .args .height) (a .before .args .wish)
+    shortestFrom (fitsOn (a .standing-of .result)) (x .length .0 / 100 + 1) 0 ≡ shortestFor x (a .before .args .height .0) (a .before .args .wish)
 whole a =
     let s = a .before in
     let p = s .pre in
-    searched (s .args .x) (p .0) (p .1) (eight s) (s .args .height) (s .args .wish) (p .2) (p .3) (a .standing-of .result) (a .standing-of .ensures .0)
+    searched (s .args .x) (p .0) (p .1) (eight s) (s .args .height .0) (s .args .wish) (p .2) (p .3) (a .standing-of .result) (a .standing-of .ensures .0)
 
 pub shortest-spec : {M : Type 1} → statement M
 shortest-spec =
@@ -36,24 +37,23 @@ shortest-spec =
     (tie.spec
     Inv-loop
     μ-loop
-    (λ c κs. (c .pre .0, c .pre .2, c .pre .3))
+    (λ c κs. c .pre)
     (λ c. (omega arith, rw sub-zero))
     (λ c. omega (arith, c .before .before .pre .0 .good .length-most))
     (λ c κs.
     let a = c .before .before in
     let s = a .before in
-    let q = a .standing-of .result in
-    let e = a .standing-of .ensures .0 in
     let p = s .pre in
     let h = c .loop-test in (
       a .standing-of .ensures .1,
-      omega (arith, length-stands (s .args .x) (p .0) (p .1) (eight s) (s .args .height) (s .args .wish) (p .2) (p .3) q e),
-      fair-at (s .args .x) (p .0) (p .1) (eight s) (s .args .height) (s .args .wish) (p .2) (p .3) q e (c .before .loop .k) (omega arith),
+      omega (arith, length-stands (s .args .x) (p .0) (p .1) (eight s) (s .args .height .0) (s .args .wish) (p .2) (p .3) (a .standing-of .result) (a .standing-of .ensures .0)),
     ))
-    (λ c. let t = c .before .before .before in
+    (λ c.
+    let t = c .before .before .before in
     sym (hit _ _ _ (omega arith) (sym (c .before .fits2 .ensures) ∙ c .if1 .taken)) ∙ t .loop .inv .1 ∙ whole (t .before))
     (λ c. omega (arith, c .before .before .before .before .before .pre .0 .good .length-most))
     (λ c. omega arith)
-    (λ c. let t = c .before .before .before in
+    (λ c.
+    let t = c .before .before .before in
     (omega arith, sym (miss _ _ _ (omega arith) (sym (c .before .fits2 .ensures) ∙ c .if1 .left)) ∙ t .loop .inv .1))
     (λ c. sym (end _ _ _ (omega arith)) ∙ c .before .loop .inv .1 ∙ whole (c .before .before)))

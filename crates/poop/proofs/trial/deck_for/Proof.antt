@@ -5,7 +5,7 @@ use borrow.Author.Needs.{needs}
 use borrow.Author.Tests.{eq-eqb, ne-eqb}
 use Rattle.whole.proofs.Pick.{pick-true, pick-false}
 use Rattle.ship.specs.declared.House.{House}
-use Rattle.marks.specs.Parts.{deckWith}
+use Rattle.deck.specs.Deck.{deckWith}
 use Rattle.poop.specs.Standing.{deckFor}
 use Rattle.poop.proofs.Passing.{poop-good}
 use Rattle.poop.proofs.trial.deck_for.Statement.{statement}
@@ -25,7 +25,7 @@ deck-for-spec =
     let f = s .pre .0 in (
       f .hull .length-most,
       rw (c .poop-house .ensures)
-          (poop-good (q .hull .length .0) (q .height) (s .args .k) (omega (arith, e .if1 .left)) (omega (arith, f .hull .length-least)) (s .pre .1) (f .height-least) (f .height-most)),
+          (poop-good (q .hull .length .0) (q .height .0) (s .args .k) (omega (arith, e .if1 .left)) (omega (arith, f .hull .length-least)) (s .pre .1) (f .height-least) (f .height-most)),
       f .deck,
     ))
     (λ c.

@@ -1,5 +1,6 @@
-use Prim.Native.Nat.{_*_}
+use Prim.Native.Nat.{_*_, _≤_, _<_}
 use mathlib.Core.Path.{refl, ap, _∙_}
+use native.Mathlib.Omega.{arith}
 use borrow.Author.Needs.{needs}
 use borrow.Author.Tests.{le-leb, lt-leb}
 use Rattle.marks.specs.Parts.{summerOn}
@@ -12,18 +13,25 @@ unfolding fitsOn
 fits-spec =
     tie.close
     (tie.spec
-    (λ c. search needs)
-    (λ c. let a = c .before .before .args in rw (lt-leb (100 * a .k) (a .q .room) (c .if1 .taken)) refl)
+    (λ c κs. omega (arith, c .pre .0 .hull .length-most))
+    (λ c.
+    let p = c .before .before .before .before in
+    let a = p .before .args in
+    let t : a .q .room .0 < 100 * a .k = rw (p .span-of-dm .ensures) at (c .if1 .taken) in
+    rw (lt-leb (100 * a .k) (a .q .room .0) t) refl)
     (λ c κs. search needs)
     (λ c κs.
     let e = c .before .before in
-    let s = e .before .before in
-    (s .pre .0 .hull, rw (c .deck-for .ensures) (s .pre .2 (e .if1 .left))))
+    let p = e .before .before .before .before in
+    let s = p .before in
+    (s .pre .0 .hull, rw (c .deck-for .ensures) (s .pre .0 .poop (s .args .k) (s .pre .1) (rw (p .span-of-dm .ensures) at (e .if1 .left)))))
     (λ c κs. search needs)
     (λ c.
     let s = c .before in
     let d = s .before in
     let e = d .before .before in
-    let a = e .before .before .args in
-    rw (le-leb (100 * a .k) (a .q .room) (e .if1 .left))
+    let p = e .before .before .before .before in
+    let a = p .before .args in
+    let t : 100 * a .k ≤ a .q .room .0 = rw (p .span-of-dm .ensures) at (e .if1 .left) in
+    rw (le-leb (100 * a .k) (a .q .room .0) t)
     (c .marked .ensures ∙ ap (markedOn (a .q)) (s .summer-on .ensures ∙ ap (summerOn (a .q .hull)) (d .deck-for .ensures)))))

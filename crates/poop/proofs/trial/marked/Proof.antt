@@ -1,56 +1,51 @@
-use Prim.Native.Nat.{ℕ, _-_}
-use mathlib.Core.Bool.{Bool, true, false, _&&_}
-use mathlib.Core.Path.{_≡_, sym, ap, _∙_}
+-- An answer is given within the wish exactly if no line refuses and S is.
+use Prim.Native.Nat.{ℕ}
+use mathlib.Core.Bool.{Bool, false, _&&_}
+use mathlib.Core.Path.{_≡_, refl, sym, ap, _∙_}
 use native.Mathlib.Omega.{arith}
-use lib.Dec.{eqb, leb, ltb}
+use lib.Dec.{eqb, leb}
 use borrow.Author.Needs.{needs}
-use Rattle.whole.specs.Pick.{pick}
-use Rattle.mark.specs.declared.Marks.{Marks}
-use Rattle.mark.specs.Others.{Paper, given, refused, paper, allowance, sixMarks, marksOf}
+use borrow.Author.Tests.{ne-eqb}
+use Rattle.ship.specs.Refusals.{Paper, numberOf, first}
+use Rattle.ship.proofs.OneToOne.{number-above-0}
+use Rattle.mark.specs.declared.Particulars.{Particulars}
+use Rattle.mark.specs.declared.Answer.{Answer}
+use Rattle.mark.specs.declared.Answer.the-variants.{Given, Refused}
+use Rattle.mark.specs.Others.{Sheet, sheet, sheetAt, markLines}
+use Rattle.mark.proofs.OneToOne.{given-summer}
+use Rattle.poop.specs.Poop.{within}
 use Rattle.poop.specs.Standing.{markedOn}
 use Rattle.poop.proofs.trial.marked.Statement.{statement}
 use Rattle.poop.proofs.trial.marked.Tie as tie
 
--- marks that are given have the summer mark that they follow from
-summer-is : (m : Marks) (D S L displacement immersion : ℕ) → given m ≡ marksOf 50 D S L displacement immersion → m .s ≡ S
-unfolding marksOf sixMarks pick
-summer-is m D S L displacement immersion e =
-    go (leb D S) (ltb (D - S) (allowance displacement immersion (D - S))) e
-  where
-    go : (a b : Bool) → given m ≡ pick a (refused 12) (pick b (refused 13) (given (sixMarks 50 S (D - S) L (allowance displacement immersion (D - S))))) → m .s ≡ S
-    go true b e = absurd (omega (arith, ap (λ (p : Paper). p .number) e))
-    go false true e = absurd (omega (arith, ap (λ (p : Paper). p .number) e))
-    go false false e = ap (λ (p : Paper). p .marks .s) e
+-- what the code says of an answer
+says : Answer → ℕ → Bool
+says (Given m) wish = leb (m .s) wish
+says (Refused r) wish = false
 
--- what an outcome says of the length
-told : (w D S L displacement immersion : ℕ) (p : Paper) → p ≡ marksOf 50 D S L displacement immersion
-    → (eqb (p .number) 0 && leb S w) ≡ (eqb (marksOf 50 D S L displacement immersion .number) 0 && leb S w)
-told w D S L displacement immersion p e = ap (λ (q : Paper). eqb (q .number) 0 && leb S w) e
+told : (a : Answer) (p : Particulars) (S wish : ℕ) → sheet a ≡ sheetAt p S → says a wish ≡ within (markLines p S) S wish
+unfolding says within sheetAt
+told (Given m) p S wish e =
+    let g = given-summer (first (markLines p S)) p S m e in
+    rw (g .0, g .1) refl
+told (Refused r) p S wish e =
+    let n : eqb (numberOf r) 0 ≡ false = ne-eqb (numberOf r) 0 (λ z. omega (arith, number-above-0 r)) in
+    sym (ap (λ (b : Bool). b && leb S wish) (ap (λ (t : Sheet). eqb (t .verdict .number) 0) (sym e) ∙ n))
 
 pub marked-spec : {M : Type 1} → statement M
-unfolding markedOn
+unfolding markedOn says
 marked-spec =
     tie.close
     (tie.spec
-    (λ c κs. search needs)
-    (λ c. search needs)
+    (λ c κs. let f = c .pre in (f .floor, f .depth, f .displacement))
     (λ c. search needs)
     (λ c. search needs)
     (λ c.
     let o = c .before .before .before in
     let f = o .before .before in
-    let a = f .before .before .before .before .args in
-    let q = a .q in
-    let e = sym (ap paper (o .o .given .1)) ∙ f .follow .ensures in
-    ap (λ (n : ℕ). leb n (q .wish)) (summer-is (o .o .given .0 .0) (q .depth .0) (a .s) (q .hull .length .0) (q .displacement) (q .immersion) e)
-    ∙ told (q .wish) (q .depth .0) (a .s) (q .hull .length .0) (q .displacement) (q .immersion) (given (o .o .given .0 .0)) e)
+    let a = f .before .args in
+    told (Given (o .a .given .0 .0)) (a .q .particulars) (a .s) (a .q .wish) (sym (ap sheet (o .a .given .1)) ∙ f .follow .ensures))
     (λ c.
     let f = c .before .before in
-    let a = f .before .before .before .before .args in
-    let q = a .q in
-    told (q .wish) (q .depth .0) (a .s) (q .hull .length .0) (q .displacement) (q .immersion) (refused 12) (sym (ap paper (c .enum-told .given .1)) ∙ f .follow .ensures))
-    (λ c.
-    let f = c .before .before in
-    let a = f .before .before .before .before .args in
-    let q = a .q in
-    told (q .wish) (q .depth .0) (a .s) (q .hull .length .0) (q .displacement) (q .immersion) (refused 13) (sym (ap paper (c .enum-told2 .given .1)) ∙ f .follow .ensures)))
+    let a = f .before .args in
+    told (Refused (c .enum-told .given .0 .0)) (a .q .particulars) (a .s) (a .q .wish) (sym (ap sheet (c .enum-told .given .1)) ∙ f .follow .ensures)))

@@ -1,6 +1,6 @@
 use borrow.Author.Needs.{needs}
-use Rattle.poop.specs.Poop.{poopHouse}
 use mathlib.Core.Bool.{true, false}
+use Rattle.poop.specs.Poop.{poopHouse}
 use Rattle.poop.proofs.trial.poop_house.Statement.{statement}
 use Rattle.poop.proofs.trial.poop_house.Tie as tie
 
@@ -10,12 +10,16 @@ poop-house-spec =
     tie.close
     (tie.spec
     (λ c κs. search needs)
-    (λ c. search needs)
     (λ c κs. search needs)
-    (λ c i. record {
+    (λ c κs. search needs)
+    (λ c.
+    let d = c .before in
+    let a = d .before in
+    let fore = rw (d .span-of-dm .ensures) at (c .forward-of-ap2 .ensures) in
+    λ i. record {
       enclosed = true;
       quarterdeck = false;
-      aft = record { 0 = c .before .forward-of-ap .ensures i };
-      fore = record { 0 = c .forward-of-ap2 .ensures i };
-      height = record { 0 = c .before .before .args .height };
+      aft = record { 0 = a .forward-of-ap .ensures i };
+      fore = record { 0 = fore i };
+      height = a .before .args .height;
     }))

@@ -1,4 +1,4 @@
-use mathlib.Core.Path.{sym, _∙_}
+use mathlib.Core.Path.{sym, ap, _∙_}
 use lib.Dec.{eqb}
 use borrow.Author.Needs.{needs}
 use borrow.Author.Tests.{eq-eqb, ne-eqb}
@@ -12,10 +12,12 @@ unfolding roomOf
 room-of-spec =
     tie.close
     (tie.spec
-    (λ c. let x = c .before .before .args .x in sym (pick-true (eqb (x .n) 0) _ _ (eq-eqb (x .n) 0 (c .if1 .taken))))
+    (λ c. let x = c .before .before .before .args .x in sym (pick-true (eqb (x .n) 0) _ _ (eq-eqb (x .n) 0 (c .before .if1 .taken))))
     (λ c. search needs)
     (λ c κs. search needs)
+    (λ c κs. search needs)
     (λ c.
-    let e = c .before .before .before in
+    let a = c .before in
+    let e = a .before .before .before in
     let x = e .before .before .args .x in
-    c .less .ensures ∙ sym (pick-false (eqb (x .n) 0) _ _ (ne-eqb (x .n) 0 (e .if1 .left)))))
+    c .between .ensures ∙ rw (a .forward-of-ap .ensures) (sym (pick-false (eqb (x .n) 0) _ _ (ne-eqb (x .n) 0 (e .if1 .left))))))

@@ -1,0 +1,3 @@
+pub mod HeadIn
+pub mod Places
+pub mod Frame

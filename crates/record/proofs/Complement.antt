@@ -1,0 +1,26 @@
+-- Laws of two's complement: only the bits of the field count, and a second turn undoes the first.
+use Prim.Native.Nat.{ℕ, _+_, _-_, _*_, _%_, _≤_, _<_}
+use mathlib.Core.Path.{_≡_, refl, ap, _∙_}
+use native.Mathlib.Nat.{mod-mod, mod-eq-of-lt, add-mod-right}
+use native.Mathlib.Decide.{decLt}
+use native.Mathlib.Omega.{arith}
+use Rattle.record.specs.Layout.{turn}
+
+pub turn-low : (half u : ℕ) → turn half (u % (2 * half)) ≡ turn half u
+turn-low half u = ap (λ (v : ℕ). (v + half) % (2 * half)) (mod-mod u (2 * half))
+
+-- the lower half goes up, and the upper half down
+turn-below : (half u : ℕ) → u < half → turn half u ≡ u + half
+turn-below half u h = ap (λ (v : ℕ). (v + half) % (2 * half)) (mod-eq-of-lt (omega arith)) ∙ mod-eq-of-lt (omega arith)
+
+turn-above : (half u : ℕ) → half ≤ u → u < 2 * half → turn half u ≡ u - half
+turn-above half u g h =
+    let e : u + half ≡ u - half + 2 * half = omega arith in
+    ap (λ (v : ℕ). (v + half) % (2 * half)) (mod-eq-of-lt h) ∙ ap (λ (v : ℕ). v % (2 * half)) e ∙ add-mod-right (u - half) (2 * half) ∙ mod-eq-of-lt (omega arith)
+
+pub turn-turn : (half u : ℕ) → u < 2 * half → turn half (turn half u) ≡ u
+turn-turn half u h =
+    elim (decLt u half) [
+      | yes l ↦ rw (turn-below half u l, turn-above half (u + half) (omega arith) (omega arith)) (omega arith)
+      | no g ↦ rw (turn-above half u (omega arith) h, turn-below half (u - half) (omega arith)) (omega arith)
+    ]

@@ -1,0 +1,42 @@
+// How many bits of its word stand after a field.
+use crate::width;
+
+// ---- bytes 0 and 1: version, type, houses n, spare
+pub const COUNT: u64 = width::SPARE;
+
+pub const KIND: u64 = COUNT + width::COUNT;
+
+pub const VERSION: u64 = KIND + width::KIND;
+
+// ---- bytes 2 to 6: L, D, the first bits of M
+pub const DEPTH: u64 = width::MOULDED_FIRST;
+
+pub const LENGTH: u64 = DEPTH + width::DEPTH;
+
+// ---- bytes 7 to 11: the last bits of M, Cb, Cwf
+pub const BLOCK: u64 = width::WATERPLANE;
+
+pub const MOULDED_LAST: u64 = BLOCK + width::BLOCK;
+
+// ---- bytes 12 to 18: the ordinates of sheer at AP, L/6, L/3 from AP, L/3 from FP
+pub const AFTER_THIRD: u64 = width::ORDINATE;
+
+pub const AFTER_SIXTH: u64 = AFTER_THIRD + width::ORDINATE;
+
+pub const AFTER_END: u64 = AFTER_SIXTH + width::ORDINATE;
+
+// ---- bytes 19 to 24: those at L/6 from FP and FP, displacement
+pub const FORWARD_END: u64 = width::DISPLACEMENT;
+
+pub const FORWARD_SIXTH: u64 = FORWARD_END + width::ORDINATE;
+
+// ---- the eight bytes of a house: enclosed, raised quarterdeck, aft end, fore end, height, spare
+pub const HEIGHT: u64 = width::HOUSE_SPARE;
+
+pub const FORE: u64 = HEIGHT + width::HEIGHT;
+
+pub const AFT: u64 = FORE + width::END;
+
+pub const QUARTERDECK: u64 = AFT + width::END;
+
+pub const ENCLOSED: u64 = QUARTERDECK + width::FLAG;

@@ -1,0 +1,74 @@
+-- Houses that are good pass checks 9 to 11; and a good house before good houses, which it does not reach, makes a good list.
+use Prim.Native.Nat.{ℕ, zero, suc, _+_, _-_, _≤_, _<_}
+use mathlib.Core.Bool.{Bool, true, false, not, _&&_, _||_}
+use mathlib.Core.List.{List, _∷_}
+use mathlib.Core.Path.{_≡_, refl}
+use native.Mathlib.Omega.{arith}
+use native.Mathlib.Numerals.{add-one}
+use borrow.Author.Tests.{le-ltb, lt-leb}
+use lib.Dec.{leb, ltb}
+use lib.ListN.{length}
+use Rattle.units.specs.Datum.{stationOf}
+use Rattle.ship.specs.declared.House.{House}
+use Rattle.ship.specs.declared.checks.Rule.{Rule}
+use Rattle.ship.specs.declared.checks.Rule.the-variants.{EndsAndHeight, RaisedQuarterdeck, NoOverlap}
+use Rattle.ship.specs.Vessel.{houseAt}
+use Rattle.ship.specs.Refusals.{accepted, first}
+use Rattle.ship.specs.Checks.{badQuarterdeck, breaks, breachAt, firstBreach, houseLines}
+use Rattle.ship.specs.Good.{GoodHouse, GoodHouses}
+use Rattle.ship.proofs.First.{first-none}
+use Rattle.ship.proofs.Lines.{first-passed}
+
+-- no house breaks a rule
+quarterdeck-passes : (l : ℕ) (h : House) → GoodHouse l h → badQuarterdeck l h ≡ false
+quarterdeck-passes l h g = go (h .quarterdeck) refl
+  where
+    go : (b : Bool) → h .quarterdeck ≡ b → (b && (not (h .enclosed) || ltb (stationOf 0) (h .aft .0) || leb (stationOf l) (h .fore .0))) ≡ false
+    go false e = refl
+    go true e =
+        let q = g .quarterdeck e in
+        rw (q .0, le-ltb (stationOf 0) (h .aft .0) (q .1), lt-leb (stationOf l) (h .fore .0) (q .2)) refl
+
+module _ (l : ℕ) (hs : List House) (g : GoodHouses l hs) where
+  keeps : (r : Rule) (j : ℕ) → j < length hs → breachAt r l hs j ≡ false
+  unfolding breachAt breaks
+  keeps EndsAndHeight j m =
+      let h = houseAt hs j in
+      let k = g .each j m in
+      rw (
+        lt-leb (h .fore .0) (h .aft .0) (k .ends),
+        lt-leb (h .fore .0) (stationOf 0) (k .ahead),
+        lt-leb (stationOf l) (h .aft .0) (k .abaft),
+        le-ltb (h .aft .0) (stationOf 0 - 20000) (k .aft-most),
+        le-ltb (stationOf (l + 20000)) (h .fore .0) (k .fore-most),
+        le-ltb (h .height .0) 1 (k .height-least),
+        le-ltb 8191 (h .height .0) (k .height-most),
+      ) refl
+  keeps RaisedQuarterdeck j m = quarterdeck-passes l (houseAt hs j) (g .each j m)
+  keeps NoOverlap zero m = le-ltb (houseAt hs 0 .aft .0) 0 (omega arith)
+  keeps NoOverlap (suc j) m = le-ltb (houseAt hs (suc j) .aft .0) (houseAt hs j .fore .0) (rw (add-one j) at (g .order j (omega arith)))
+
+  passes : (r : Rule) → ltb (firstBreach r l hs) (length hs) ≡ false
+  unfolding firstBreach
+  passes r =
+      let e = first-none (breachAt r l hs) 0 (length hs) (λ j p m. keeps r j (omega arith)) in
+      le-ltb (firstBreach r l hs) (length hs) (omega (arith, e))
+
+  pub lines-pass : first (houseLines l hs) ≡ accepted
+  lines-pass = first-passed (houseLines l hs) (passes EndsAndHeight, (passes RaisedQuarterdeck, (passes NoOverlap, tt)))
+
+-- a good house before good houses
+pub good-with : (l : ℕ) (h : House) (hs : List House) → GoodHouse l h → GoodHouses l hs → (0 < length hs → h .fore .0 ≤ houseAt hs 0 .aft .0) → GoodHouses l (h ∷ hs)
+good-with l h hs good g before =
+    record {
+      each = each;
+      order = order;
+    }
+  where
+    each : (k : ℕ) → k < length (h ∷ hs) → GoodHouse l (houseAt (h ∷ hs) k)
+    each zero m = good
+    each (suc k) m = g .each k (omega arith)
+
+    order : (k : ℕ) → k + 1 < length (h ∷ hs) → houseAt (h ∷ hs) k .fore .0 ≤ houseAt (h ∷ hs) (k + 1) .aft .0
+    order zero m = before (omega arith)
+    order (suc k) m = rw (add-one (suc k)) (rw (add-one k) at (g .order k (omega arith)))

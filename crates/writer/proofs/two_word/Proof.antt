@@ -1,0 +1,20 @@
+use native.Mathlib.Omega.{arith}
+use borrow.Author.Needs.{needs}
+use Rattle.bits.specs.Fields.{pack}
+use Rattle.writer.proofs.two_word.Statement.{statement}
+use Rattle.writer.proofs.two_word.Tie as tie
+
+pub two-word-spec : {M : Type 1} → statement M
+unfolding pack
+two-word-spec =
+    tie.close
+    (tie.spec
+    (λ c. search needs)
+    (λ c κs. search needs)
+    (λ c. search needs)
+    (λ c. search needs)
+    (λ c κs. search needs)
+    (λ c. search needs)
+    (λ c. search needs)
+    (λ c. search needs)
+    (λ c. omega arith))

@@ -1,15 +1,13 @@
 -- The summer mark against its exact value.
-use Prim.Native.Nat.{ℕ, _+_, _*_, _-_, _≤_, max}
-use mathlib.Core.Path.{_≡_, ap₂}
+use Prim.Native.Nat.{ℕ, _+_, _*_, _-_, _≤_}
 use native.Mathlib.Omega.{arith}
 use native.Mathlib.Nat.{mul-pos, mul-le-mul-right}
 use Rattle.whole.specs.Divide.{ceilDiv}
-use Rattle.whole.specs.Frac.{Frac, _≈f_, _+f_, _-f_, _*f_, maxf, whole, frac}
+use Rattle.whole.specs.Frac.{Frac, _+f_, _-f_, _*f_, maxf, whole, frac}
 use Rattle.whole.specs.Round.{Within}
-use Rattle.whole.proofs.Divide.{ceil-ge, ceil-lt, ceil-most}
-use Rattle.whole.proofs.Frac.{trans≤<, trans≈, refl≈, +-same}
+use Rattle.whole.proofs.Divide.{ceil-ge, ceil-lt}
+use Rattle.whole.proofs.Frac.{trans≤<}
 use Rattle.whole.proofs.Round.{larger, loosen, exactly}
-use Rattle.whole.proofs.Signed.{stops-hide}
 use Rattle.mark.specs.Summer.{summerMark}
 use Rattle.mark.specs.Exact.{exactSummer, Holds}
 
@@ -30,28 +28,3 @@ summer-holds {z = z} floor a t x y v w =
     let n = larger (loosen {f = frac 1099 1000} (omega arith) (exactly floor)) (to-mm (larger v w)) in
     let e = maxf (whole floor) (maxf (x -f y) z *f frac 1 1000) in
     record { above = n .above; close = trans≤< {y = e +f frac 1099 1000} (n .close) (omega (arith, mul-pos (e .pos) (e .pos))) }
-
--- ---- with signed numbers: a - t and p - q may be below zero, which the floor hides
--- The summer mark is the least whole number of mm that is at least the floor and at least each of the two, every term on the side where it is not negative
-pub summer-least : (floor a t p q k : ℕ)
-    → (summerMark floor a t (p - q) ≤ k → (floor ≤ k) × (a ≤ 1000 * k + t) × (p ≤ 1000 * k + q))
-    × ((floor ≤ k) × (a ≤ 1000 * k + t) × (p ≤ 1000 * k + q) → summerMark floor a t (p - q) ≤ k)
-unfolding summerMark
-summer-least floor a t p q k =
-    let m = max (a - t) (p - q) in (
-      λ h. omega (arith, ceil-ge m 1000 (omega arith)),
-      λ h. omega (arith, ceil-most m 1000 k (omega arith) (omega arith)),
-    )
-
--- the exact value in um
-in-um : (floor : ℕ) (x y z : Frac) → exactSummer floor x y z *f whole 1000 ≈f maxf (whole (1000 * floor)) (maxf (x -f y) z)
-unfolding exactSummer
-in-um floor x y z =
-    let m = maxf (x -f y) z in
-    let e : max (floor * (m .bot * 1000)) (m .top * 1 * 1) ≡ max (1000 * floor * m .bot) (m .top * 1) = ap₂ max (omega arith) (omega arith) in
-    record { eq = rw e (omega arith) }
-
--- and with y and w given back on both sides, where no term is negative
-pub exact-signed : (floor : ℕ) (x y z w : Frac)
-    → exactSummer floor x y (z -f w) *f whole 1000 +f (y +f w) ≈f maxf (whole (1000 * floor) +f (y +f w)) (maxf (x +f w) (z +f y))
-exact-signed floor x y z w = trans≈ (+-same (in-um floor x y (z -f w)) (refl≈ (y +f w))) (stops-hide (whole (1000 * floor)) x y z w)

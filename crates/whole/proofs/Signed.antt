@@ -1,17 +1,16 @@
 -- Signed numbers as two naturals: what stands above zero and what lies below, each a difference that stops at zero, so that one of the two is always 0.
--- Two laws say that nothing is lost by it.
+-- `signed-floor` says that nothing is lost by it.
 use Prim.Native.Nat.{ℕ, _+_, _*_, _-_, _/_, _≤_, _<_}
 use mathlib.Core.Path.{_≡_}
 use mathlib.Core.Logic.{_⊎_, inl, inr}
 use native.Mathlib.Omega.{arith}
 use native.Mathlib.Decide.{decLt}
-use native.Mathlib.Nat.{mul-pos, mul-comm, mul-le-mul-right, div-mul-le-self, lt-div-mul-add}
+use native.Mathlib.Nat.{mul-pos, mul-comm, div-mul-le-self, lt-div-mul-add}
 use Rattle.whole.specs.Divide.{ceilDiv}
-use Rattle.whole.proofs.Divide.{ceil-ge, ceil-lt, ceil-nought, sub-mul, max-mul}
-use Rattle.whole.specs.Frac.{Frac, _≤f_, _<f_, _≈f_, _+f_, _-f_, maxf, whole, ceil, floor}
+use Rattle.whole.proofs.Divide.{ceil-ge, ceil-lt, ceil-nought}
+use Rattle.whole.specs.Frac.{Frac, _≤f_, _<f_, _+f_, _-f_, whole, ceil, floor}
 use Rattle.whole.specs.Round.{Within, Below}
 use Rattle.whole.proofs.Round.{nought}
-use Rattle.whole.proofs.Frac.{refl≤, trans≤, +-mono≤, both≤, max-left, max-right, max-least, sub-add}
 
 -- The signed p - q over d, rounded down, has the part (p - q) / d above zero and the part ceilDiv (q - p) d below it:
 -- (above - below) d ≤ p - q < (above - below + 1) d, each term on the side where it is not negative
@@ -52,39 +51,3 @@ one-side {c} {d} {x} {y} {s} v w z =
       | inl p ↦ record { up = whole 0; down = s; plus = nought x (whole c) (p .1) (p .0); minus = w; both = omega arith }
       | inr p ↦ record { up = s; down = whole 0; plus = v; minus = nought (whole d) y (p .0) (p .1); both = omega arith }
     ]
-
--- the greater of two, with t more
-max-under : (x y t m : Frac) → x +f t ≤f m → y +f t ≤f m → maxf x y +f t ≤f m
-max-under x y t m h k =
-    omega (arith, max-mul (x .top * y .bot) (y .top * x .bot) (t .bot * m .bot), mul-le-mul-right (y .bot) (h .le), mul-le-mul-right (x .bot) (k .le))
-
--- x - y with y given back is the greater of x and y
-back-under : (x y w m : Frac) → x +f w ≤f m → y +f w ≤f m → (x -f y) +f (y +f w) ≤f m
-back-under x y w m h k =
-    omega (
-      arith,
-      sub-mul (x .top * y .bot) (y .top * x .bot) (y .bot * w .bot * m .bot),
-      mul-le-mul-right (y .bot * y .bot) (h .le),
-      mul-le-mul-right (x .bot * y .bot) (k .le),
-    )
-
--- Under a floor n, differences that stop at zero give the same greatest value as signed ones: with y and w given back on both sides, where no term
--- is negative, the greatest of n, x - y and z - w is that of n + y + w, x + w and z + y
-pub stops-hide : (n x y z w : Frac) → maxf n (maxf (x -f y) (z -f w)) +f (y +f w) ≈f maxf (n +f (y +f w)) (maxf (x +f w) (z +f y))
-stops-hide n x y z w =
-    let t = y +f w in
-    let a = maxf (x +f w) (z +f y) in
-    let m = maxf (n +f t) a in
-    let d = maxf (x -f y) (z -f w) in
-    let low : t ≤f m = trans≤ (omega arith) (max-left (n +f t) a) in
-    let xw : x +f w ≤f m = trans≤ (max-left (x +f w) (z +f y)) (max-right (n +f t) a) in
-    let zy : z +f y ≤f m = trans≤ (max-right (x +f w) (z +f y)) (max-right (n +f t) a) in
-    let xy : (x -f y) +f t ≤f m = back-under x y w m xw low in
-    let zw : (z -f w) +f t ≤f m = trans≤ {y = (z -f w) +f (w +f y)} (omega arith) (back-under z w y m zy (trans≤ (omega arith) low)) in
-    let first : x +f w ≤f d +f t =
-    trans≤ (+-mono≤ (sub-add x y) (refl≤ w)) (trans≤ {y = (x -f y) +f t} (omega arith) (+-mono≤ (max-left (x -f y) (z -f w)) (refl≤ t))) in
-    let second : z +f y ≤f d +f t =
-    trans≤ (+-mono≤ (sub-add z w) (refl≤ y)) (trans≤ {y = (z -f w) +f t} (omega arith) (+-mono≤ (max-right (x -f y) (z -f w)) (refl≤ t))) in
-    both≤
-    (max-under n d t m (max-left (n +f t) a) (max-under (x -f y) (z -f w) t m xy zw))
-    (max-least (+-mono≤ (max-left n d) (refl≤ t)) (trans≤ (max-least first second) (+-mono≤ (max-right n d) (refl≤ t))))

@@ -1,0 +1,50 @@
+-- Demand 2's exact value is 01's formula worked with signed fractions and then held to the floor.
+use Prim.Native.Nat.{_+_, _≤_}
+use native.Mathlib.Omega.{arith}
+use Rattle.whole.specs.Frac.{_+f_, _*f_, whole, frac}
+use Rattle.units.specs.Datum.{lift, sheerAt}
+use Rattle.tables.specs.Table37.{ordinaryRow}
+use Rattle.ship.specs.declared.Ship.{Ship}
+use Rattle.ship.specs.Vessel.{housesOf}
+use Rattle.houses.specs.Length.{partOf}
+use Rattle.houses.specs.Effective.{exactEffective}
+use Rattle.houses.proofs.Counted.{covered-most}
+use Rattle.corrections.specs.Fullness30.{counted}
+use Rattle.corrections.specs.Gathered as Before
+use Rattle.sheer.specs.Sheer as Sheer
+use Rattle.bow.specs.Bow as Bow
+use Rattle.mark.specs.Exact.{exactSummer}
+use Rattle.marks.specs.Steps.{Sound, typeB, coveredS, forecastleHouse, coverReach, basis}
+use Rattle.marks.specs.Exact.{exactE, exactAddedTo, exactTakenFrom, exactBowOf, exactSummerOf}
+use Rattle.signed.specs.Signed.{_≈s_, plain, _-s_}
+use Rattle.signed.specs.Summer.{corrected, bowOf, signedSummerOf}
+use Rattle.signed.proofs.Laws.{refl≈s, trans≈s, +s-same, two-differences, held}
+use Rattle.signed.proofs.Sheer.{sheer-signed}
+use Rattle.signed.proofs.Bow.{bow-signed}
+
+-- S is at most L, so that 0.75-S/2L is above zero
+corrected-same : (x : Ship) → Sound x → corrected x ≈s plain (exactAddedTo x) -s plain (exactTakenFrom ordinaryRow x)
+unfolding corrected exactAddedTo exactTakenFrom
+corrected-same x k =
+    let l = x .length .0 in
+    let a = Before.exactAdded (basis x .exact) (typeB x) l (x .depth .0) (counted (x .block)) (exactE x) in
+    let d = Before.exactDeducted (typeB x) ordinaryRow (exactEffective l (forecastleHouse x)) l (exactE x) in
+    let s : coveredS x ≤ l = unfold coveredS in covered-most l (housesOf x) (k .good .houses) in
+    trans≈s (+s-same (refl≈s (plain a -s plain d)) (sheer-signed (x .sheer) l (coveredS x) (coverReach x) (omega (arith, k .good .length-least)) s))
+    (two-differences a d (Sheer.exactAdded (x .sheer) l (coveredS x)) (Sheer.exactDeducted (x .sheer) l (coveredS x) (coverReach x)))
+
+pub signed-summer : (x : Ship) → Sound x → plain (exactSummerOf x) ≈s signedSummerOf x
+unfolding exactSummerOf exactSummer exactBowOf Bow.exactBow signedSummerOf bowOf
+signed-summer x k =
+    let l = x .length .0 in
+    let m = x .moulded .0 in
+    let cb = counted (x .block) in
+    let cwf = x .waterplane in
+    let part = partOf l (forecastleHouse x) in
+    let height = forecastleHouse x .height .0 in
+    let sixth = sheerAt (x .sheer) 4 in
+    let fp = sheerAt (x .sheer) 5 in
+    held (whole (basis x .floor)) (frac 1 1000) (exactAddedTo x) (exactTakenFrom ordinaryRow x)
+    (Bow.exactB1 l *f Bow.exactB2Above l m cb cwf +f whole (Bow.sheerTaken sixth lift))
+    (Bow.exactB1 l *f Bow.exactB2Below l m cb cwf +f whole (Bow.sheerTaken sixth fp + Bow.forecastleTaken l part height))
+    (corrected x) (bowOf x) (corrected-same x k) (bow-signed (x .sheer) l m cb cwf part height)

@@ -1,0 +1,29 @@
+-- 01, "Steps to the summer mark", of a ship, with signs and no rounding. 38 and 39 are Formula.antt's; what needs no sign is the exact value of its own
+-- regulation's crate. Freeboards in um, the mark in mm.
+use Rattle.whole.specs.Frac.{whole, frac}
+use Rattle.tables.specs.Table37.{ordinaryRow}
+use Rattle.ship.specs.declared.Ship.{Ship}
+use Rattle.houses.specs.Length.{partOf}
+use Rattle.houses.specs.Effective.{exactEffective}
+use Rattle.corrections.specs.Fullness30.{counted}
+use Rattle.corrections.specs.Gathered.{exactAdded, exactDeducted}
+use Rattle.marks.specs.Steps.{typeB, coveredS, forecastleHouse, coverReach, basis}
+use Rattle.marks.specs.Exact.{exactE}
+use Rattle.signed.specs.Signed.{Signed, plain, _+s_, _-s_, _*s_, maxs}
+use Rattle.signed.specs.Formula.{mean, bySheer, bow}
+
+-- the corrected value: the table (28) with 29 to 31, less the houses' deduction (37), and what sheer (38) adds or deducts
+unfoldable pub corrected : Ship → Signed
+corrected x =
+    plain (exactAdded (basis x .exact) (typeB x) (x .length .0) (x .depth .0) (counted (x .block)) (exactE x))
+    -s plain (exactDeducted (typeB x) ordinaryRow (exactEffective (x .length .0) (forecastleHouse x)) (x .length .0) (exactE x))
+    +s bySheer (mean (x .sheer) (x .length .0)) (x .length .0) (coveredS x) (coverReach x)
+
+-- the bow's (39)
+unfoldable pub bowOf : Ship → Signed
+bowOf x =
+    bow (x .sheer) (x .length .0) (x .moulded .0) (counted (x .block)) (x .waterplane) (partOf (x .length .0) (forecastleHouse x)) (forecastleHouse x .height .0)
+
+-- mark (40): the greater of the two, in mm, and at least the floor
+unfoldable pub signedSummerOf : Ship → Signed
+signedSummerOf x = maxs (plain (whole (basis x .floor))) (maxs (corrected x) (bowOf x) *s plain (frac 1 1000))

@@ -22,6 +22,7 @@ use Rattle.sheer.specs.Sheer as Sheer
 use Rattle.bow.specs.Bow as Bow
 use Rattle.mark.specs.Summer as Summer
 use Rattle.mark.specs.Others as Others
+use Rattle.marks.specs.Basis as Basis
 use Rattle.marks.specs.Steps as Steps
 use Rattle.marks.specs.Marks as Marks
 use Rattle.poop.specs.Poop as Poop
@@ -30,11 +31,11 @@ use Rattle.figures.specs.Figures.{asked, house, ship90, k1, k2, figures,
 
 -- what a figure computes through
 unfoldable Tools : Type 0
-unfolding Pick.pick Divide.ceilDiv Row.gain Row.height Row.heightIn Table28.table28A Table28.table28B Tabular.tabular Table37.ordinaryRow Refusals.first Checks.firstFrom Checks.breaks Checks.breachAt Checks.firstBreach
+unfolding Pick.pick Divide.ceilDiv Row.gain Row.height Table28.table28A Table28.table28B Tabular.tabular Table37.ordinaryRow Refusals.first Checks.firstFrom Checks.breaks Checks.breachAt Checks.firstBreach
 Tools = Unit {0}
 
 unfoldable Houses : Type 0
-unfolding Length.partOf Length.total Length.coveredLength Height.ordinaryHeight Height.raisedHeight Height.standardHeight Effective.limitedLength Effective.exactEffective Effective.effectiveOf Effective.effectiveLength Forecastle.isForecastle Forecastle.isForecastleAt Forecastle.forecastleAt Forecastle.forecastleOf Cover.isAmidships Cover.reachOf Cover.reach
+unfolding Length.partOf Length.total Length.coveredLength Height.ordinaryHeight Height.raisedHeight Height.standardHeight Effective.limitedLength Effective.exactEffective Effective.effectiveOf Effective.effectiveLength Forecastle.houseThat Forecastle.isForecastle Forecastle.forecastleOf Cover.isAmidships Cover.reachOf Cover.reach
 Houses = Unit {0}
 
 unfoldable Corrections : Type 0
@@ -42,7 +43,7 @@ unfolding Short29.exactShortB Short29.shortB Fullness30.exactFullness Fullness30
 Corrections = Unit {0}
 
 unfoldable Marking : Type 0
-unfolding Summer.summerMark Others.tropical Others.winter Others.atlantic Others.allowance Others.sixMarks Steps.coveredS Steps.effectiveE Steps.forecastleHouse Steps.coverReach Steps.tableLine Steps.addedTo Steps.takenFrom Steps.bowOf Steps.summerOf Marks.marksOf Marks.sheetFor
+unfolding Summer.summerMark Others.tropical Others.winter Others.atlantic Others.allowance Others.sixMarks Others.sheetAt Basis.basisOf Steps.coveredS Steps.effectiveE Steps.forecastleHouse Steps.coverReach Steps.addedTo Steps.takenFrom Steps.bowOf Steps.summerOf Marks.particularsOf Marks.sheetFor
 Marking = Unit {0}
 
 unfoldable Asking : Type 0

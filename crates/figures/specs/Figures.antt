@@ -6,12 +6,14 @@ use lib.Dec.{eqb}
 use lib.IntN.{ℤ, pos, negsuc}
 use lib.ListN.{length, replicate}
 use Rattle.whole.specs.Frac.{Frac}
-use Rattle.units.specs.Datum.{stationOf}
+use Rattle.units.specs.declared.Ordinate.{Ordinate}
+use Rattle.units.specs.Datum.{stationOf, lift}
+use Rattle.tables.specs.Table37.{ordinaryRow}
 use Rattle.tables.specs.Table28.{table28A, table28B}
 use Rattle.tables.specs.Tabular.{tabular}
 use Rattle.ship.specs.declared.House.{House}
 use Rattle.ship.specs.declared.Ship.{Ship}
-use Rattle.ship.specs.Vessel.{lift, noHouse}
+use Rattle.ship.specs.Vessel.{noHouse}
 use Rattle.houses.specs.Length.{coveredLength}
 use Rattle.houses.specs.Height.{standardHeight}
 use Rattle.houses.specs.Effective.{effectiveOf}
@@ -38,8 +40,9 @@ unfoldable pub house : ℕ → ℕ → ℕ → House
 house aft fore height =
     record { enclosed = true; quarterdeck = false; aft = record { 0 = stationOf aft }; fore = record { 0 = stationOf fore }; height = record { 0 = height } }
 
-abbrev pub lifted : List ℕ → List ℕ
-lifted o = map (λ (mm : ℕ). lift + mm) o
+-- ordinates of so many mm
+abbrev pub ordinates : List ℕ → List Ordinate
+ordinates o = map (λ (mm : ℕ). record { 0 = lift + mm }) o
 
 -- k1's ship, with houses
 unfoldable pub ship90 : List House → Ship
@@ -51,7 +54,7 @@ ship90 hs = record {
   moulded = record { 0 = 6000 };
   block = 6800;
   waterplane = 8000;
-  sheer = lifted (1000 ∷ 444 ∷ 112 ∷ 224 ∷ 888 ∷ 2000 ∷ []);
+  sheer = ordinates (1000 ∷ 444 ∷ 112 ∷ 224 ∷ 888 ∷ 2000 ∷ []);
   displacement = 0;
   immersion = 0;
   houses = hs ++ replicate (8 - length hs) noHouse;
@@ -75,11 +78,11 @@ abbrev pub heightRow : ℕ → Frac → ℕ → Row
 heightRow k x mm = row k (x .top) (mm * x .bot)
 
 -- k11's and k12's ordinates
-abbrev pub level : List ℕ
-level = lifted (0 ∷ 0 ∷ 0 ∷ 0 ∷ 0 ∷ 0 ∷ [])
+abbrev pub level : List Ordinate
+level = ordinates (0 ∷ 0 ∷ 0 ∷ 0 ∷ 0 ∷ 0 ∷ [])
 
-abbrev pub doubled : List ℕ
-doubled = lifted (2000 ∷ 888 ∷ 224 ∷ 448 ∷ 1776 ∷ 4000 ∷ [])
+abbrev pub doubled : List Ordinate
+doubled = ordinates (2000 ∷ 888 ∷ 224 ∷ 448 ∷ 1776 ∷ 4000 ∷ [])
 
 abbrev pub amidships : List House
 amidships = house 36000 54000 2000 ∷ []
@@ -95,10 +98,10 @@ askedRows k wish decimetres number = row k (asked wish .decimetres) decimetres �
 -- ---- the table
 unfoldable pub figures : List Row
 figures =
-    row 1 (addedTo k1 - takenFrom k1) 1101250
+    row 1 (addedTo k1 - takenFrom ordinaryRow k1) 1101250
     ∷ row 1 (higher 90000 6000 6800 8000 - lower 90000 6000 6800 8000) 4029337
     ∷ marksRows 1 k1 2030 1948 2113 2163 1948 1866
-    ++ row 2 (takenFrom k2) 69095
+    ++ row 2 (takenFrom ordinaryRow k2) 69095
     ∷ marksRows 2 k2 1024 921 1128 1178 921 818
     ++ askedRows 3 1000 31 0
     ++ row 3 (summerOf (withPoop 1950 30 k2)) 1001

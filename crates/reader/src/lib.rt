@@ -7,7 +7,6 @@ ghost use Rattle.ship.specs.Refusals.{paper, first, accepted, refused, numberOf
 ghost use Rattle.ship.specs.Vessel.{noShip};
 ghost use Rattle.ship.specs.Checks.{shipLines};
 ghost use Rattle.record.specs.Layout.{recordLength, houseWidths, houseOf, headIn, placesIn, shipOf};
-ghost use Rattle.record.specs.Words.{sheerIn};
 ghost use Rattle.record.specs.Reading.{sparesIn, headLines, readingOf, readingIn};
 ghost use Rattle.reader.specs.Answer.{shown};
 use record::HEAD;
@@ -20,57 +19,12 @@ use ship::Ship;
 use ship::checks;
 use ship::refusal::Refusal;
 use ship::refusal::Verdict;
-use units::Ordinate;
 use units::Span;
 
 // A ship, or the refusal with a ship of zeros beside it.
 pub struct Answer {
     pub verdict: Verdict,
     pub ship: Ship,
-}
-
-// The ordinates of sheer, from the word of the first four and that of the last two.
-fn sheer_in(four: u64, two: u64) -> [Ordinate; 6]
-    ensures { λ r. ⌜ r ≡ sheerIn four two ⌝ }
-{
-    [
-        record::ordinate_in(four >> after::AFTER_END),
-        record::ordinate_in(four >> after::AFTER_SIXTH),
-        record::ordinate_in(four >> after::AFTER_THIRD),
-        record::ordinate_in(four),
-        record::ordinate_in(two >> after::FORWARD_SIXTH),
-        record::ordinate_in(two >> after::FORWARD_END),
-    ]
-}
-
-// The head of a record, from six words.
-fn head_in(s: &[u8]) -> Head
-    requires { ⌜ 27 ≤ length (now s) ⌝ }
-    ensures { λ r. ⌜ r ≡ headIn (now (s .entry)) ⌝ }
-{
-    let first = bits::word(&s[0..2]);
-    let sizes = bits::word(&s[2..7]);
-    let fullness = bits::word(&s[7..12]);
-    let four = bits::word(&s[12..19]);
-    let two = bits::word(&s[19..25]);
-    let immersion = bits::word(&s[25..27]);
-    let sheer = sheer_in(four, two);
-    let moulded = sizes % range::MOULDED_FIRST * range::MOULDED_LAST
-        + (fullness >> after::MOULDED_LAST);
-    Head {
-        version: first >> after::VERSION,
-        kind: (first >> after::KIND) % range::KIND,
-        count: (first >> after::COUNT) % range::COUNT,
-        spare: first % range::SPARE,
-        length: Span(sizes >> after::LENGTH),
-        depth: Span((sizes >> after::DEPTH) % range::DEPTH),
-        moulded: Span(moulded),
-        block: (fullness >> after::BLOCK) % range::BLOCK,
-        waterplane: fullness % range::WATERPLANE,
-        sheer,
-        displacement: two % range::DISPLACEMENT,
-        immersion,
-    }
 }
 
 // Checks 2 to 5 on the head of a record of so many bytes.
@@ -205,7 +159,7 @@ pub fn read(s: &[u8]) -> Answer
     if s.len() < HEAD {
         return refuse(Refusal::ShortRecord);
     }
-    let h = head_in(s);
+    let h = head::read(s);
     let v = check_head(h, s.len());
     match v {
         Verdict::Accepted => read_ship(s, h),

@@ -23,11 +23,11 @@ read-spec =
     (λ c κs. search needs)
     (λ c κs.
     let s = now (c .before .before .before .args .s) in
-    omega (arith, count-within s, ap (λ (h : Head). h .count) (c .head-in .ensures)))
+    omega (arith, count-within s, ap (λ (h : Head). h .count) (c .read .ensures)))
     (λ c. search needs)
     (λ c κs.
     let v = c .before .before in
-    (v .before .head-in .ensures, omega arith, sym (v .check-head .ensures) ∙ ap paper (c .enum-told .given .1)))
+    (v .before .read .ensures, omega arith, sym (v .check-head .ensures) ∙ ap paper (c .enum-told .given .1)))
     (λ c. search needs)
     (λ c κs. search needs)
     (λ c. search needs)
@@ -38,4 +38,4 @@ read-spec =
     let s = now (h .before .before .before .args .s) in
     let r = v .v .given .0 .0 in
     c .refuse2 .ensures
-    ∙ sym (reading-unframed s r (frame-head s (h .head-in .result) (h .head-in .ensures) (omega arith) r (sym (k .check-head .ensures) ∙ ap paper (v .v .given .1))))))
+    ∙ sym (reading-unframed s r (frame-head s (h .read .result) (h .read .ensures) (omega arith) r (sym (k .check-head .ensures) ∙ ap paper (v .v .given .1))))))

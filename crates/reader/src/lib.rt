@@ -1,6 +1,6 @@
 // Any bytes as a ship, or one numbered refusal.
 ghost use mathlib.Core.Path.{_≡_};
-ghost use Prim.Native.Nat.{_≤_, _<_};
+ghost use Prim.Native.Nat.{_≤_};
 ghost use lib.ListN.{length};
 ghost use Rattle.bits.specs.Fields.{unpack};
 ghost use Rattle.ship.specs.Refusals.{paper, first, accepted, refused, numberOf, placeOf};
@@ -9,8 +9,8 @@ ghost use Rattle.ship.specs.Checks.{shipLines};
 ghost use Rattle.record.specs.Layout.{recordLength, houseWidths, houseOf, headIn, placesIn, shipOf};
 ghost use Rattle.record.specs.Reading.{sparesIn, headLines, readingOf, readingIn};
 ghost use Rattle.reader.specs.Answer.{shown};
-use record::HEAD;
-use record::HOUSE;
+use record::HEAD_BYTES;
+use record::HOUSE_BYTES;
 use record::Head;
 use record::after;
 use record::range;
@@ -29,7 +29,6 @@ pub struct Answer {
 
 // Checks 2 to 5 on the head of a record of so many bytes.
 fn check_head(h: Head, bytes: usize) -> Verdict
-    requires { ⌜ h .count < 16 ⌝ }
     ensures { λ v. ⌜ paper v ≡ first (headLines h bytes) ⌝ }
 {
     if h.version != record::VERSION {
@@ -42,7 +41,7 @@ fn check_head(h: Head, bytes: usize) -> Verdict
         return Verdict::Refused(Refusal::HouseCount);
     }
     let n = h.count as usize;
-    if bytes != HEAD + HOUSE * n {
+    if bytes != HEAD_BYTES + HOUSE_BYTES * n {
         return Verdict::Refused(Refusal::RecordLength);
     }
     Verdict::Accepted
@@ -78,8 +77,8 @@ fn houses_in(s: &[u8], n: usize) -> Houses
     let mut spare = 0;
     let mut k = 0;
     while k < n {
-        let a = HEAD + HOUSE * k;
-        let e = a + HOUSE;
+        let a = HEAD_BYTES + HOUSE_BYTES * k;
+        let e = a + HOUSE_BYTES;
         let word = bits::word(&s[a..e]);
         let h = house_of(word);
         places[k] = h;
@@ -89,7 +88,7 @@ fn houses_in(s: &[u8], n: usize) -> Houses
     Houses { places, spare }
 }
 
-// The ship of a head and its houses.
+// The ship of a head and of its houses.
 fn ship_of(h: Head, houses: [House; 8]) -> Ship
     requires { ⌜ h .count ≤ 8 ⌝ }
     ensures { λ r. ⌜ r ≡ shipOf h houses ⌝ }
@@ -156,7 +155,7 @@ fn read_ship(s: &[u8], h: Head) -> Answer
 pub fn read(s: &[u8]) -> Answer
     ensures { λ r. ⌜ shown r ≡ readingIn (now (s .entry)) ⌝ }
 {
-    if s.len() < HEAD {
+    if s.len() < HEAD_BYTES {
         return refuse(Refusal::ShortRecord);
     }
     let h = head::read(s);

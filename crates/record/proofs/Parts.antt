@@ -30,10 +30,6 @@ length-housesIn (suc n) t = ap suc (length-housesIn n (drop 8 t))
 pub head-within : (s : List ℕ) (k : ℕ) → getD (unpack headWidths (number (take 27 s))) k 0 < 2 ^ getD headWidths k 0
 head-within s = fit-each headWidths (unpack headWidths (number (take 27 s))) (fit-unpack headWidths (number (take 27 s)))
 
-pub count-within : (s : List ℕ) → headIn s .count < 16
-unfolding headIn
-count-within s = head-within s 2
-
 pub spare-within : (s : List ℕ) → headIn s .spare < 64
 unfolding headIn
 spare-within s = head-within s 3

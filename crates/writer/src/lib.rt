@@ -1,15 +1,15 @@
 // Any ship as a record in a lent buffer, or one numbered refusal and the buffer as it was.
 ghost use mathlib.Core.Path.{_≡_};
-ghost use Prim.Native.Nat.{_+_, _*_, _/_, _%_, _≤_, _<_};
-ghost use mathlib.Core.List.{[], _∷_, _++_};
+ghost use Prim.Native.Nat.{_≤_, _<_};
+ghost use mathlib.Core.List.{_++_};
 ghost use lib.ListN.{length, take, drop};
-ghost use Rattle.bits.specs.Fields.{pack, bytes, Fit};
+ghost use Rattle.bits.specs.Fields.{Fit};
 ghost use Rattle.ship.specs.Vessel.{housesOf};
 ghost use Rattle.ship.specs.Refusals.{paper};
-ghost use Rattle.record.specs.Layout.{recordLength, bit, Low, houseBytes, housesBytes, headWidths, headFields, headBytes, shipHead, recordBytes};
+ghost use Rattle.record.specs.Layout.{recordLength, bit, Low, houseBytes, housesBytes, headWidths, headFields, shipHead, recordBytes};
 ghost use Rattle.record.specs.Writing.{writingOf, written};
-use record::HEAD;
-use record::HOUSE;
+use record::HEAD_BYTES;
+use record::HOUSE_BYTES;
 use record::Head;
 use record::range;
 use ship::House;
@@ -43,13 +43,14 @@ fn head_of(x: Ship) -> Head
 }
 
 // ---- the houses
+// A flag's bit.
 fn bit_of(b: bool) -> u64
     ensures { λ r. ⌜ (r ≡ bit b) × (r < 2) ⌝ }
 {
     if b { 1 } else { 0 }
 }
 
-// Writes a house over eight bytes; its spare bits are 0.
+// Writes a house over eight bytes: in its word each field shifts those before it up by its range. The spare bits are 0.
 fn put_house(out: &mut [u8], h: House)
     requires { ⌜ (length (now out) ≡ 8) × (h .height .0 < 8192) ⌝ }
     ensures { λ _. ⌜ now (out .exit) ≡ houseBytes h ⌝ }
@@ -70,8 +71,8 @@ fn put_houses(buf: &mut [u8], houses: [House; 8], n: usize)
 {
     let mut k = 0;
     while k < n {
-        let a = HEAD + HOUSE * k;
-        let e = a + HOUSE;
+        let a = HEAD_BYTES + HOUSE_BYTES * k;
+        let e = a + HOUSE_BYTES;
         let h = houses[k];
         put_house(&mut buf[a..e], h);
         k += 1;
@@ -87,7 +88,7 @@ fn put_record(buf: &mut [u8], x: Ship)
     ensures { λ _. ⌜ now (buf .exit) ≡ recordBytes x ++ drop (recordLength (x .n)) (now (buf .entry)) ⌝ }
 {
     let h = head_of(x);
-    head::write(&mut buf[0..27], h);
+    head::write(&mut buf[0..HEAD_BYTES], h);
     let houses = x.houses;
     put_houses(buf, houses, x.n);
 }
@@ -106,7 +107,7 @@ pub fn write(buf: &mut [u8], x: Ship) -> Verdict
     let v = checks::of_ship(x);
     match v {
         Verdict::Accepted => {
-            if buf.len() < HEAD + HOUSE * x.n {
+            if buf.len() < HEAD_BYTES + HOUSE_BYTES * x.n {
                 return Verdict::Refused(Refusal::ShortBuffer);
             }
             put_record(buf, x);

@@ -5,8 +5,6 @@ use native.Mathlib.Omega.{arith}
 use borrow.Author.Needs.{needs}
 use Rattle.ship.specs.declared.refusal.Refusal.the-variants.{ShortRecord}
 use Rattle.ship.specs.Refusals.{paper}
-use Rattle.record.specs.declared.Head.{Head}
-use Rattle.record.proofs.Parts.{count-within}
 use Rattle.record.proofs.Framed.{reading-unframed}
 use Rattle.reader.proofs.Frame.{frame-short, frame-head}
 use Rattle.reader.proofs.read.Statement.{statement}
@@ -21,9 +19,7 @@ read-spec =
     let s = now (c .before .before .before .args .s) in
     c .refuse .ensures ∙ sym (reading-unframed s ShortRecord (frame-short s (omega arith))))
     (λ c κs. search needs)
-    (λ c κs.
-    let s = now (c .before .before .before .args .s) in
-    omega (arith, count-within s, ap (λ (h : Head). h .count) (c .read .ensures)))
+    (λ c κs. search needs)
     (λ c. search needs)
     (λ c κs.
     let v = c .before .before in

@@ -1,6 +1,6 @@
 // The head of a record as four words, read from its 27 bytes and written over them.
 ghost use mathlib.Core.Path.{_≡_};
-ghost use Prim.Native.Nat.{_-_, _≤_, _<_};
+ghost use Prim.Native.Nat.{_-_, _≤_};
 ghost use mathlib.Core.List.{_++_};
 ghost use lib.ListN.{length};
 ghost use Rattle.bits.specs.Fields.{pack, bytes, Fit};

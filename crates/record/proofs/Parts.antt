@@ -1,5 +1,5 @@
 -- How long a record's parts are, and that fields stand within their widths.
-use Prim.Native.Nat.{ℕ, zero, suc, _+_, _*_, _^_, _<_}
+use Prim.Native.Nat.{ℕ, zero, suc, _*_, _^_, _<_}
 use mathlib.Core.List.{List, [], _∷_}
 use mathlib.Core.Path.{_≡_, refl, ap}
 use lib.ListN.{length, take, drop, getD, length-append}

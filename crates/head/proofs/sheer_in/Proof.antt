@@ -1,7 +1,7 @@
 use mathlib.Core.List.{[], _∷_}
 use borrow.Author.Needs.{needs}
-use Rattle.reader.proofs.sheer_in.Statement.{statement}
-use Rattle.reader.proofs.sheer_in.Tie as tie
+use Rattle.head.proofs.sheer_in.Statement.{statement}
+use Rattle.head.proofs.sheer_in.Tie as tie
 
 pub sheer-in-spec : {M : Type 1} → statement M
 sheer-in-spec =

@@ -1,8 +1,8 @@
 use native.Mathlib.Omega.{arith}
 use borrow.Author.Needs.{needs}
 use Rattle.bits.specs.Fields.{pack}
-use Rattle.writer.proofs.four_word.Statement.{statement}
-use Rattle.writer.proofs.four_word.Tie as tie
+use Rattle.head.proofs.four_word.Statement.{statement}
+use Rattle.head.proofs.four_word.Tie as tie
 
 pub four-word-spec : {M : Type 1} → statement M
 unfolding pack

@@ -1,9 +1,9 @@
--- Laws of lists that a loop fills from the front.
+-- Laws of lists that are filled from the front, by a loop or part by part.
 use Prim.Native.Nat.{ℕ, _+_, _≤_, _<_}
-use mathlib.Core.List.{List, _++_, append-nil}
-use mathlib.Core.Path.{_≡_}
+use mathlib.Core.List.{List, _++_, append-assoc, append-nil}
+use mathlib.Core.Path.{_≡_, sym, _∙_}
 use lib.ListN.{length, take, drop, getD, set, drop-of-length-le}
-use lib.Seq.{paste-suc, take-all}
+use lib.Seq.{paste-suc, take-all, take-at, drop-at, drop-drop}
 use native.Mathlib.Nat.{zero-add}
 use native.Mathlib.Numerals.{add-one}
 use native.Mathlib.Omega.{arith}
@@ -16,3 +16,14 @@ fill-step d s j hd hs = rw (add-one j) (simp zero-add at (paste-suc d 0 s j 0 (o
 -- and all
 pub fill-all : (d s : List ℕ) (n : ℕ) → length s ≡ length d → length d ≤ n → take n s ++ drop n d ≡ s
 fill-all d s n e h = rw (take-all n s (omega arith), drop-of-length-le d h) (append-nil s)
+
+-- ---- parts of a lent slice
+-- a part that was lent from a on, back with other bytes
+pub part-back : (p q ys : List ℕ) (a m : ℕ) → length p ≡ a → take a (p ++ q) ++ (ys ++ drop m (drop a (p ++ q))) ≡ (p ++ ys) ++ drop m q
+part-back p q ys a m e = rw (take-at p q a e, drop-at p q a e) (sym (append-assoc p ys (drop m q)))
+
+-- two parts lent one after the other, up to the slice's end
+pub two-parts : (d p q : List ℕ) (a b : ℕ) → length p ≡ a → length d ≡ a + b
+    → let x = p ++ drop a d in
+    take a x ++ (q ++ drop b (drop a x)) ≡ p ++ q
+two-parts d p q a b lp ld = part-back p (drop a d) q a b lp ∙ rw (drop-drop b a d, drop-of-length-le d {i = a + b} (omega arith)) (append-nil (p ++ q))

@@ -7,6 +7,7 @@ use libc::STDOUT_FILENO;
 use ship::House;
 use ship::Ship;
 use ship::refusal::Verdict;
+use units::Ordinate;
 use units::Span;
 use units::Station;
 
@@ -45,12 +46,12 @@ fn vessel(buf: &[u8; 448]) -> Ship {
         house(buf, 7),
     ];
     let sheer = [
-        at(buf, 8),
-        at(buf, 9),
-        at(buf, 10),
-        at(buf, 11),
-        at(buf, 12),
-        at(buf, 13),
+        Ordinate(at(buf, 8)),
+        Ordinate(at(buf, 9)),
+        Ordinate(at(buf, 10)),
+        Ordinate(at(buf, 11)),
+        Ordinate(at(buf, 12)),
+        Ordinate(at(buf, 13)),
     ];
     Ship {
         kind: at(buf, 1),

@@ -1,15 +1,13 @@
 -- What checks 1 to 6 say, check by check as the reader comes to them.
 use Prim.Native.Nat.{ℕ, _+_, _≤_, _<_}
-use mathlib.Core.Bool.{not}
 use mathlib.Core.List.{List, [], _∷_, _++_}
-use mathlib.Core.Path.{_≡_, refl, sym, ap, subst, _∙_}
+use mathlib.Core.Path.{_≡_, refl, sym, ap, _∙_}
 use mathlib.Core.Logic.{_≢_}
 use lib.Dec.{eqb, ltb}
 use lib.ListN.{length}
 use borrow.Author.Tests.{lt-ltb, le-ltb, eq-eqb, ne-eqb, ltb-false, eqb-true, not-false}
 use native.Mathlib.Omega.{arith}
 use Rattle.whole.specs.Pick.{pick}
-use Rattle.ship.specs.declared.Ship.{Ship}
 use Rattle.ship.specs.declared.refusal.Refusal.{Refusal}
 use Rattle.ship.specs.Refusals.{Paper, accepted, refused, numberOf, placeOf, first}
 use Rattle.ship.proofs.Lines.{all-pass, first-skip, first-accepted, first-refused}

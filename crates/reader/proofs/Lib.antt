@@ -1,3 +1,2 @@
-pub mod HeadIn
 pub mod Places
 pub mod Frame

@@ -1,17 +1,16 @@
 // Any bytes as a ship, or one numbered refusal.
 ghost use mathlib.Core.Path.{_≡_};
-ghost use Prim.Native.Nat.{_≤_, _<_};
+ghost use Prim.Native.Nat.{_≤_};
 ghost use lib.ListN.{length};
 ghost use Rattle.bits.specs.Fields.{unpack};
 ghost use Rattle.ship.specs.Refusals.{paper, first, accepted, refused, numberOf, placeOf};
 ghost use Rattle.ship.specs.Vessel.{noShip};
 ghost use Rattle.ship.specs.Checks.{shipLines};
 ghost use Rattle.record.specs.Layout.{recordLength, houseWidths, houseOf, headIn, placesIn, shipOf};
-ghost use Rattle.record.specs.Words.{sheerIn};
 ghost use Rattle.record.specs.Reading.{sparesIn, headLines, readingOf, readingIn};
 ghost use Rattle.reader.specs.Answer.{shown};
-use record::HEAD;
-use record::HOUSE;
+use record::HEAD_BYTES;
+use record::HOUSE_BYTES;
 use record::Head;
 use record::after;
 use record::range;
@@ -20,7 +19,6 @@ use ship::Ship;
 use ship::checks;
 use ship::refusal::Refusal;
 use ship::refusal::Verdict;
-use units::Ordinate;
 use units::Span;
 
 // A ship, or the refusal with a ship of zeros beside it.
@@ -29,53 +27,8 @@ pub struct Answer {
     pub ship: Ship,
 }
 
-// The ordinates of sheer, from the word of the first four and that of the last two.
-fn sheer_in(four: u64, two: u64) -> [Ordinate; 6]
-    ensures { λ r. ⌜ r ≡ sheerIn four two ⌝ }
-{
-    [
-        record::ordinate_in(four >> after::AFTER_END),
-        record::ordinate_in(four >> after::AFTER_SIXTH),
-        record::ordinate_in(four >> after::AFTER_THIRD),
-        record::ordinate_in(four),
-        record::ordinate_in(two >> after::FORWARD_SIXTH),
-        record::ordinate_in(two >> after::FORWARD_END),
-    ]
-}
-
-// The head of a record, from six words.
-fn head_in(s: &[u8]) -> Head
-    requires { ⌜ 27 ≤ length (now s) ⌝ }
-    ensures { λ r. ⌜ r ≡ headIn (now (s .entry)) ⌝ }
-{
-    let first = bits::word(&s[0..2]);
-    let sizes = bits::word(&s[2..7]);
-    let fullness = bits::word(&s[7..12]);
-    let four = bits::word(&s[12..19]);
-    let two = bits::word(&s[19..25]);
-    let immersion = bits::word(&s[25..27]);
-    let sheer = sheer_in(four, two);
-    let moulded = sizes % range::MOULDED_FIRST * range::MOULDED_LAST
-        + (fullness >> after::MOULDED_LAST);
-    Head {
-        version: first >> after::VERSION,
-        kind: (first >> after::KIND) % range::KIND,
-        count: (first >> after::COUNT) % range::COUNT,
-        spare: first % range::SPARE,
-        length: Span(sizes >> after::LENGTH),
-        depth: Span((sizes >> after::DEPTH) % range::DEPTH),
-        moulded: Span(moulded),
-        block: (fullness >> after::BLOCK) % range::BLOCK,
-        waterplane: fullness % range::WATERPLANE,
-        sheer,
-        displacement: two % range::DISPLACEMENT,
-        immersion,
-    }
-}
-
 // Checks 2 to 5 on the head of a record of so many bytes.
 fn check_head(h: Head, bytes: usize) -> Verdict
-    requires { ⌜ h .count < 16 ⌝ }
     ensures { λ v. ⌜ paper v ≡ first (headLines h bytes) ⌝ }
 {
     if h.version != record::VERSION {
@@ -88,7 +41,7 @@ fn check_head(h: Head, bytes: usize) -> Verdict
         return Verdict::Refused(Refusal::HouseCount);
     }
     let n = h.count as usize;
-    if bytes != HEAD + HOUSE * n {
+    if bytes != HEAD_BYTES + HOUSE_BYTES * n {
         return Verdict::Refused(Refusal::RecordLength);
     }
     Verdict::Accepted
@@ -124,8 +77,8 @@ fn houses_in(s: &[u8], n: usize) -> Houses
     let mut spare = 0;
     let mut k = 0;
     while k < n {
-        let a = HEAD + HOUSE * k;
-        let e = a + HOUSE;
+        let a = HEAD_BYTES + HOUSE_BYTES * k;
+        let e = a + HOUSE_BYTES;
         let word = bits::word(&s[a..e]);
         let h = house_of(word);
         places[k] = h;
@@ -135,7 +88,7 @@ fn houses_in(s: &[u8], n: usize) -> Houses
     Houses { places, spare }
 }
 
-// The ship of a head and its houses.
+// The ship of a head and of its houses.
 fn ship_of(h: Head, houses: [House; 8]) -> Ship
     requires { ⌜ h .count ≤ 8 ⌝ }
     ensures { λ r. ⌜ r ≡ shipOf h houses ⌝ }
@@ -202,10 +155,10 @@ fn read_ship(s: &[u8], h: Head) -> Answer
 pub fn read(s: &[u8]) -> Answer
     ensures { λ r. ⌜ shown r ≡ readingIn (now (s .entry)) ⌝ }
 {
-    if s.len() < HEAD {
+    if s.len() < HEAD_BYTES {
         return refuse(Refusal::ShortRecord);
     }
-    let h = head_in(s);
+    let h = head::read(s);
     let v = check_head(h, s.len());
     match v {
         Verdict::Accepted => read_ship(s, h),

@@ -1,10 +1,10 @@
 -- What checks 1 to 6 show of accepted bytes, and what a reading then is.
-use Prim.Native.Nat.{ℕ, _+_, _*_, _≤_}
+use Prim.Native.Nat.{ℕ, _+_, _≤_}
 use mathlib.Core.Bool.{not}
 use mathlib.Core.List.{List, _++_}
-use mathlib.Core.Path.{_≡_, refl, sym, ap, subst, _∙_}
+use mathlib.Core.Path.{_≡_, sym, ap, subst, _∙_}
 use lib.ListN.{length}
-use lib.Dec.{eqb, ltb}
+use lib.Dec.{eqb}
 use borrow.Author.Tests.{ltb-false, eqb-true, not-false, le-ltb, eq-eqb}
 use native.Mathlib.Omega.{arith}
 use Rattle.whole.specs.Pick.{pick}
@@ -17,7 +17,7 @@ use Rattle.ship.proofs.Lines.{AllPass, all-pass, all-pass-split, first-accepted
 use Rattle.ship.specs.Good.{Good}
 use Rattle.ship.proofs.Accepted.{good}
 use Rattle.record.specs.Layout.{recordLength, headIn, shipIn}
-use Rattle.record.specs.Reading.{Reading, sparesIn, headLines, frameLines, readingOf, readingIn}
+use Rattle.record.specs.Reading.{Reading, sparesIn, frameLines, readingOf, readingIn}
 
 -- the bytes of a record with a right head, in its right length, with no spare bit set
 pub record Framed (s : List ℕ) : Type 0 where

@@ -1,5 +1,5 @@
 -- How long a record's parts are, and that fields stand within their widths.
-use Prim.Native.Nat.{ℕ, zero, suc, _+_, _*_, _^_, _<_}
+use Prim.Native.Nat.{ℕ, zero, suc, _*_, _^_, _<_}
 use mathlib.Core.List.{List, [], _∷_}
 use mathlib.Core.Path.{_≡_, refl, ap}
 use lib.ListN.{length, take, drop, getD, length-append}
@@ -29,10 +29,6 @@ length-housesIn (suc n) t = ap suc (length-housesIn n (drop 8 t))
 -- a field of the head stands within its width
 pub head-within : (s : List ℕ) (k : ℕ) → getD (unpack headWidths (number (take 27 s))) k 0 < 2 ^ getD headWidths k 0
 head-within s = fit-each headWidths (unpack headWidths (number (take 27 s))) (fit-unpack headWidths (number (take 27 s)))
-
-pub count-within : (s : List ℕ) → headIn s .count < 16
-unfolding headIn
-count-within s = head-within s 2
 
 pub spare-within : (s : List ℕ) → headIn s .spare < 64
 unfolding headIn

@@ -1,19 +1,20 @@
 // How many bits of its word stand after a field.
 use crate::width;
 
-// ---- bytes 0 and 1: version, type, houses n, spare
-pub const COUNT: u64 = width::SPARE;
+// ---- bytes 0 to 7: version, type, houses n, spare, L, D, the first bits of M
+pub const DEPTH: u64 = width::MOULDED_FIRST;
+
+pub const LENGTH: u64 = DEPTH + width::DEPTH;
+
+pub const SPARE: u64 = LENGTH + width::LENGTH;
+
+pub const COUNT: u64 = SPARE + width::SPARE;
 
 pub const KIND: u64 = COUNT + width::COUNT;
 
 pub const VERSION: u64 = KIND + width::KIND;
 
-// ---- bytes 2 to 6: L, D, the first bits of M
-pub const DEPTH: u64 = width::MOULDED_FIRST;
-
-pub const LENGTH: u64 = DEPTH + width::DEPTH;
-
-// ---- bytes 7 to 11: the last bits of M, Cb, Cwf
+// ---- bytes 8 to 11: the last bits of M, Cb, Cwf
 pub const BLOCK: u64 = width::WATERPLANE;
 
 pub const MOULDED_LAST: u64 = BLOCK + width::BLOCK;
@@ -25,8 +26,10 @@ pub const AFTER_SIXTH: u64 = AFTER_THIRD + width::ORDINATE;
 
 pub const AFTER_END: u64 = AFTER_SIXTH + width::ORDINATE;
 
-// ---- bytes 19 to 24: those at L/6 from FP and FP, displacement
-pub const FORWARD_END: u64 = width::DISPLACEMENT;
+// ---- bytes 19 to 26: those at L/6 from FP and FP, displacement, immersion
+pub const DISPLACEMENT: u64 = width::IMMERSION;
+
+pub const FORWARD_END: u64 = DISPLACEMENT + width::DISPLACEMENT;
 
 pub const FORWARD_SIXTH: u64 = FORWARD_END + width::ORDINATE;
 

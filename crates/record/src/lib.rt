@@ -14,9 +14,9 @@ pub mod range;
 pub mod width;
 
 // Bytes of the head, and of each house.
-pub const HEAD: usize = 27;
+pub const HEAD_BYTES: usize = 27;
 
-pub const HOUSE: usize = 8;
+pub const HOUSE_BYTES: usize = 8;
 
 // The only version.
 pub const VERSION: u64 = 1;

@@ -2,11 +2,15 @@
 use crate::width;
 
 // ---- the head
+pub const VERSION: u64 = 1 << width::VERSION;
+
 pub const KIND: u64 = 1 << width::KIND;
 
 pub const COUNT: u64 = 1 << width::COUNT;
 
 pub const SPARE: u64 = 1 << width::SPARE;
+
+pub const LENGTH: u64 = 1 << width::LENGTH;
 
 pub const DEPTH: u64 = 1 << width::DEPTH;
 
@@ -21,6 +25,8 @@ pub const WATERPLANE: u64 = 1 << width::WATERPLANE;
 pub const ORDINATE: u64 = 1 << width::ORDINATE;
 
 pub const DISPLACEMENT: u64 = 1 << width::DISPLACEMENT;
+
+pub const IMMERSION: u64 = 1 << width::IMMERSION;
 
 // ---- a house
 pub const FLAG: u64 = 1 << width::FLAG;

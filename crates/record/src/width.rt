@@ -13,9 +13,9 @@ pub const LENGTH: u64 = 20;
 pub const DEPTH: u64 = 16;
 
 // M stands across the end of a word: its first bits in one, its last in the next.
-pub const MOULDED_FIRST: u64 = 4;
+pub const MOULDED_FIRST: u64 = 12;
 
-pub const MOULDED_LAST: u64 = 12;
+pub const MOULDED_LAST: u64 = 4;
 
 pub const BLOCK: u64 = 14;
 
@@ -24,6 +24,8 @@ pub const WATERPLANE: u64 = 14;
 pub const ORDINATE: u64 = 14;
 
 pub const DISPLACEMENT: u64 = 20;
+
+pub const IMMERSION: u64 = 16;
 
 // ---- a house
 pub const FLAG: u64 = 1;

@@ -1,32 +1,16 @@
--- Laws of parts of a buffer: a part that was lent comes back, one house more is written, the houses stand behind the head.
+-- One house more is written, and the houses stand behind the head.
 use Prim.Native.Nat.{ℕ, _+_, _*_, _≤_, _<_}
 use mathlib.Core.List.{List, [], _∷_, _++_, append-assoc, append-nil}
 use mathlib.Core.Path.{_≡_, refl, sym, ap, _∙_}
-use lib.ListN.{length, take, drop, length-append, drop-of-length-le}
-use lib.Seq.{drop-append-add, take-at, drop-at, drop-drop, take-suc, length-take-le}
+use lib.ListN.{length, take, drop, length-append}
+use lib.Seq.{drop-append-add, take-at, drop-drop, take-suc, length-take-le}
 use native.Mathlib.Numerals.{add-one}
 use native.Mathlib.Omega.{arith}
+use Rattle.bits.proofs.Fill.{part-back}
 use Rattle.ship.specs.declared.House.{House}
 use Rattle.ship.specs.Vessel as Vessel
 use Rattle.record.specs.Layout.{houseBytes, housesBytes}
 use Rattle.record.proofs.Parts.{length-housesBytes}
-
--- a part that was lent from a on, back with other bytes
-pub part-back : (p q ys : List ℕ) (a m : ℕ) → length p ≡ a → take a (p ++ q) ++ (ys ++ drop m (drop a (p ++ q))) ≡ (p ++ ys) ++ drop m q
-part-back p q ys a m e = rw (take-at p q a e, drop-at p q a e) (sym (append-assoc p ys (drop m q)))
-
--- parts lent one after the other, up to the slice's end
-pub two-parts : (d p q : List ℕ) (a b : ℕ) → length p ≡ a → length d ≡ a + b
-    → let x = p ++ drop a d in
-    take a x ++ (q ++ drop b (drop a x)) ≡ p ++ q
-two-parts d p q a b lp ld = part-back p (drop a d) q a b lp ∙ rw (drop-drop b a d, drop-of-length-le d {i = a + b} (omega arith)) (append-nil (p ++ q))
-
-pub three-parts : (d p q r : List ℕ) (a b c : ℕ) → length p ≡ a → length q ≡ b → length d ≡ a + b + c
-    → let x = p ++ drop a d in
-    let y = take a x ++ (q ++ drop b (drop a x)) in
-    take (a + b) y ++ (r ++ drop c (drop (a + b) y)) ≡ (p ++ q) ++ r
-three-parts d p q r a b c lp lq ld =
-    rw (part-back p (drop a d) q a b lp, drop-drop b a d) (two-parts d (p ++ q) r (a + b) c (omega (arith, length-append p q)) ld)
 
 housesBytes-snoc : (hs : List House) (h : House) → housesBytes (hs ++ (h ∷ [])) ≡ housesBytes hs ++ houseBytes h
 housesBytes-snoc [] h = append-nil (houseBytes h)

@@ -1,12 +1,10 @@
 -- Too few bytes, a head that is refused, and a right one.
-use mathlib.Core.Path.{_≡_, sym, ap, _∙_}
+use mathlib.Core.Path.{sym, ap, _∙_}
 use denote.Ref.{now}
 use native.Mathlib.Omega.{arith}
 use borrow.Author.Needs.{needs}
 use Rattle.ship.specs.declared.refusal.Refusal.the-variants.{ShortRecord}
 use Rattle.ship.specs.Refusals.{paper}
-use Rattle.record.specs.declared.Head.{Head}
-use Rattle.record.proofs.Parts.{count-within}
 use Rattle.record.proofs.Framed.{reading-unframed}
 use Rattle.reader.proofs.Frame.{frame-short, frame-head}
 use Rattle.reader.proofs.read.Statement.{statement}
@@ -21,13 +19,11 @@ read-spec =
     let s = now (c .before .before .before .args .s) in
     c .refuse .ensures ∙ sym (reading-unframed s ShortRecord (frame-short s (omega arith))))
     (λ c κs. search needs)
-    (λ c κs.
-    let s = now (c .before .before .before .args .s) in
-    omega (arith, count-within s, ap (λ (h : Head). h .count) (c .head-in .ensures)))
+    (λ c κs. search needs)
     (λ c. search needs)
     (λ c κs.
     let v = c .before .before in
-    (v .before .head-in .ensures, omega arith, sym (v .check-head .ensures) ∙ ap paper (c .enum-told .given .1)))
+    (v .before .read .ensures, omega arith, sym (v .check-head .ensures) ∙ ap paper (c .enum-told .given .1)))
     (λ c. search needs)
     (λ c κs. search needs)
     (λ c. search needs)
@@ -38,4 +34,4 @@ read-spec =
     let s = now (h .before .before .before .args .s) in
     let r = v .v .given .0 .0 in
     c .refuse2 .ensures
-    ∙ sym (reading-unframed s r (frame-head s (h .head-in .result) (h .head-in .ensures) (omega arith) r (sym (k .check-head .ensures) ∙ ap paper (v .v .given .1))))))
+    ∙ sym (reading-unframed s r (frame-head s (h .read .result) (h .read .ensures) (omega arith) r (sym (k .check-head .ensures) ∙ ap paper (v .v .given .1))))))

@@ -1,7 +1,6 @@
 use mathlib.Core.Path.{ap}
 use Rattle.ship.specs.declared.Ship.{Ship}
 use Rattle.ship.specs.Refusals.{refused, numberOf, placeOf}
-use Rattle.record.specs.Reading.{Reading}
 use borrow.Author.Needs.{needs}
 use Rattle.reader.proofs.refuse.Statement.{statement}
 use Rattle.reader.proofs.refuse.Tie as tie

@@ -36,4 +36,4 @@ put-record-spec =
     let s = d .before .before in
     let x = s .args .x in
     w .put-houses .ensures
-    ∙ rw (h .put-head .ensures, d .head-of .ensures) (behind-head (headBytes (shipHead x)) (now (s .args .buf)) (x .n) (x .houses) (length-headBytes (shipHead x)))))
+    ∙ rw (h .write .ensures, d .head-of .ensures) (behind-head (headBytes (shipHead x)) (now (s .args .buf)) (x .n) (x .houses) (length-headBytes (shipHead x)))))

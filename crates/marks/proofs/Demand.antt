@@ -1,5 +1,5 @@
 -- Demand 2: the summer mark of every accepted ship is never below its exact value, and less than 1.1 mm above it.
--- What each rounding can cost is composed along the formula: 3.7 um and 4 um before sheer, 2 um by sheer, 14 um in the bow's; the mark has room for 100.
+-- What each rounding can cost is composed along the formula: 3.7 um and 4 um before sheer, 2 um by sheer, 13 um in the bow's; the mark has room for 100.
 use Prim.Native.Nat.{ℕ, _*_, _≤_}
 use mathlib.Core.List.{List, _++_}
 use mathlib.Core.Path.{_≡_, sym, ap}

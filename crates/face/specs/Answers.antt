@@ -8,7 +8,7 @@ use Rattle.ship.specs.declared.Ship.{Ship}
 use Rattle.ship.specs.Refusals.{Paper}
 use Rattle.record.specs.Reading.{Reading}
 use Rattle.mark.specs.declared.Marks.{Marks}
-use Rattle.mark.specs.Exact.{Holds}
+use Rattle.mark.specs.Summer.{Holds}
 use Rattle.mark.specs.Others.{Sheet}
 use Rattle.marks.specs.Exact.{exactSummerOf}
 use Rattle.poop.specs.Question.{Reply}

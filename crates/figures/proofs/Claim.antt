@@ -43,7 +43,7 @@ unfolding Short29.exactShortB Short29.shortB Fullness30.exactFullness Fullness30
 Corrections = Unit {0}
 
 unfoldable Marking : Type 0
-unfolding Summer.summerMark Others.tropical Others.winter Others.atlantic Others.allowance Others.sixMarks Others.sheetAt Basis.basisOf Steps.coveredS Steps.effectiveE Steps.forecastleHouse Steps.coverReach Steps.addedTo Steps.takenFrom Steps.bowOf Steps.summerOf Marks.particularsOf Marks.sheetFor
+unfolding Summer.exactSummer Summer.summerMark Others.tropical Others.winter Others.atlantic Others.allowance Others.sixMarks Others.sheetAt Basis.basisOf Steps.coveredS Steps.effectiveE Steps.forecastleHouse Steps.coverReach Steps.addedTo Steps.takenFrom Steps.bowOf Steps.summerOf Marks.particularsOf Marks.sheetFor
 Marking = Unit {0}
 
 unfoldable Asking : Type 0

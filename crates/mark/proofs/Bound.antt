@@ -1,30 +1,41 @@
--- The summer mark against its exact value.
-use Prim.Native.Nat.{ℕ, _+_, _*_, _-_, _≤_}
+-- The summer mark as code works it, and against its exact value.
+use Prim.Native.Nat.{ℕ, _*_, _-_, _≤_, max}
+use mathlib.Core.Path.{_≡_, _∙_}
 use native.Mathlib.Omega.{arith}
-use native.Mathlib.Nat.{mul-pos, mul-le-mul-right}
 use Rattle.whole.specs.Divide.{ceilDiv}
-use Rattle.whole.specs.Frac.{Frac, _+f_, _-f_, _*f_, maxf, whole, frac}
-use Rattle.whole.specs.Round.{Within}
+use Rattle.whole.specs.Frac.{Frac, _<f_, _≈f_, _+f_, _-f_, whole, frac, ceil}
+use Rattle.whole.specs.Round.{Near, Within}
 use Rattle.whole.proofs.Divide.{ceil-ge, ceil-lt}
-use Rattle.whole.proofs.Frac.{trans≤<}
-use Rattle.whole.proofs.Round.{larger, loosen, exactly}
-use Rattle.mark.specs.Summer.{summerMark}
-use Rattle.mark.specs.Exact.{exactSummer, Holds}
+use Rattle.whole.proofs.Frac.{refl≤, trans<≤, trans≤, +-mono≤, refl≈}
+use Rattle.whole.proofs.Round.{near-self, near-max, near-times, loosen, restate, ceil-of, by-ceil}
+use Rattle.mark.specs.Summer.{exactSummer, summerMark, Holds}
 
--- um up to whole mm: 100 um and the rounding stay below 1.1 mm, for a whole number of um is at most 999 short of the next mm
-to-mm : {m : ℕ} {z : Frac} → Within m z (whole 100) → Within (ceilDiv m 1000) (z *f frac 1 1000) (frac 1099 1000)
-to-mm {m} {z} w = record {
-  above = record { le = omega (arith, mul-le-mul-right (z .bot) (ceil-ge m 1000 (omega arith)), w .above .le) };
-  close =
-      let k : ceilDiv m 1000 * 1000 ≤ m + 999 = omega (arith, ceil-lt m 1000 (omega arith)) in
-      record { le = omega (arith, mul-le-mul-right (z .bot) k, w .close .le) };
-}
+-- the floor is whole, so it may be laid on before the rounding or after it
+floor-out : (floor m : ℕ) → max floor (ceilDiv m 1000) ≡ ceilDiv (max (1000 * floor) m) 1000
+floor-out floor m = omega (arith, ceil-ge m 1000 (omega arith), ceil-lt m 1000 (omega arith), ceil-ge (max (1000 * floor) m) 1000 (omega arith), ceil-lt (max (1000 * floor) m) 1000 (omega arith))
+
+in-mm : (floor a t b : ℕ) → frac (max (1000 * floor) (max (a - t) b)) 1000 ≈f exactSummer floor (whole a) (whole t) (whole b)
+unfolding exactSummer
+in-mm floor a t b = omega arith
+
+pub mark-quotient : (floor a t b : ℕ) → max floor (ceilDiv (max (a - t) b) 1000) ≡ summerMark floor a t b
+unfolding summerMark
+mark-quotient floor a t b = floor-out floor (max (a - t) b) ∙ ceil-of (max (1000 * floor) (max (a - t) b)) 1000 (omega arith) (in-mm floor a t b)
+
+-- the last rounding costs less than 1 mm
+under-one : (x : Frac) → whole (ceil x) <f x +f whole 1
+under-one x = omega (arith, ceil-lt (x .top) (x .bot) (x .pos))
 
 -- Where the corrected value and the bow's freeboard are each within 100 um, the summer mark is never below the exact value and less than 1.1 mm above it
 pub summer-holds : {b : ℕ} {z : Frac} (floor a t : ℕ) (x y : Frac) → Within (a - t) (x -f y) (whole 100) → Within b z (whole 100)
     → Holds (summerMark floor a t b) (exactSummer floor x y z)
 unfolding summerMark exactSummer
-summer-holds {z = z} floor a t x y v w =
-    let n = larger (loosen {f = frac 1099 1000} (omega arith) (exactly floor)) (to-mm (larger v w)) in
-    let e = maxf (whole floor) (maxf (x -f y) z *f frac 1 1000) in
-    record { above = n .above; close = trans≤< {y = e +f frac 1099 1000} (n .close) (omega (arith, mul-pos (e .pos) (e .pos))) }
+summer-holds {b} {z} floor a t x y v w =
+    let c : Near (x -f y) (whole a -f whole t) (whole 100) = restate (refl≈ (x -f y)) (omega arith) v in
+    let e = exactSummer floor x y z in
+    let r = exactSummer floor (whole a) (whole t) (whole b) in
+    let n : Near e r (frac 1 10) = near-max (near-self (whole floor) (frac 1 10)) (loosen (omega arith) (near-times (frac 1 1000) (near-max c w))) in
+    record {
+      above = trans≤ (n .above) (by-ceil r .above);
+      close = trans<≤ {y = r +f whole 1} (under-one r) (trans≤ (+-mono≤ (n .close) (refl≤ (whole 1))) (omega arith));
+    }

@@ -1,3 +1,2 @@
 pub mod Summer
-pub mod Exact
 pub mod Others

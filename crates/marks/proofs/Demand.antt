@@ -33,7 +33,7 @@ use Rattle.bow.proofs.Bound.{bow-within}
 use Rattle.mark.specs.declared.Answer.{Answer}
 use Rattle.mark.specs.declared.Answer.the-variants.{Given, Refused}
 use Rattle.mark.specs.Others.{Sheet, markLines, sixMarks, sheet, sheetAt}
-use Rattle.mark.specs.Exact.{Holds}
+use Rattle.mark.specs.Summer.{Holds}
 use Rattle.mark.proofs.Bound.{summer-holds}
 use Rattle.mark.proofs.OneToOne.{given-marks}
 use Rattle.marks.specs.Basis.{Basis, basisOf}

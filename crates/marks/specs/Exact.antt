@@ -14,7 +14,7 @@ use Rattle.sheer.specs.Sheer as Sheer
 use Rattle.bow.specs.Bow.{exactBow}
 use Rattle.mark.specs.declared.Answer.{Answer}
 use Rattle.mark.specs.declared.Answer.the-variants.{Given, Refused}
-use Rattle.mark.specs.Exact.{exactSummer, Holds}
+use Rattle.mark.specs.Summer.{exactSummer, Holds}
 use Rattle.marks.specs.Steps.{typeB, coveredS, forecastleHouse, coverReach, basis}
 
 -- E as a fraction; S, the cover's reach, and the forecastle's l and height are whole

@@ -13,7 +13,7 @@ use Rattle.corrections.specs.Fullness30.{counted}
 use Rattle.corrections.specs.Gathered as Before
 use Rattle.sheer.specs.Sheer as Sheer
 use Rattle.bow.specs.Bow as Bow
-use Rattle.mark.specs.Exact.{exactSummer}
+use Rattle.mark.specs.Summer.{exactSummer}
 use Rattle.marks.specs.Steps.{Sound, typeB, coveredS, forecastleHouse, coverReach, basis}
 use Rattle.marks.specs.Exact.{exactE, exactAddedTo, exactTakenFrom, exactBowOf, exactSummerOf}
 use Rattle.signed.specs.Signed.{_≈s_, plain, _-s_}

@@ -1,4 +1,4 @@
--- Laws of the tabular freeboard, from the rule of the rows: A is at most B, it grows with the length, and it is at most 6 m.
+-- Laws of the tabular freeboard, from the rule of the rows: A is at most B, and it grows with the length.
 use mathlib.Core.Path.{_≡_, ap}
 use mathlib.Core.List.{List}
 use Prim.Native.Nat.{ℕ, zero, suc, _+_, _*_, _-_, _%_, _≤_, _<_}
@@ -56,9 +56,6 @@ tabular-at-most-next {t} r l h =
     let q = pair r l h in
     let p : l % 1000 ≤ 1000 = omega arith in
     omega (arith, mul-le-mul-right (getD t (nextOf l) 0 - getD t (rowOf l) 0) p)
-
-pub tabular-small : {t : List ℕ} → Rows t → (l : ℕ) → l ≤ 365000 → tabular t l ≤ 6000000
-tabular-small r l h = (let q = pair r l h in omega (arith, tabular-at-most-next r l h))
 
 -- the value between two rows, as a share of each
 mix : (lo hi p : ℕ) → lo ≤ hi → p ≤ 1000 → 1000 * lo + p * (hi - lo) ≡ lo * (1000 - p) + hi * p

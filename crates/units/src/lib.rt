@@ -1,5 +1,5 @@
 // The units that regulation 28 keeps apart, a type for each: none can be added to another. A number crosses from one to another only in a
-// function of this file, or in the function of a regulation's formula, which makes a freeboard of lengths.
+// function of this file, or in that of a regulation's formula, which makes a freeboard, or an effective length, of lengths.
 ghost use mathlib.Core.Path.{_≡_};
 ghost use Prim.Native.Nat.{_+_, _-_, _*_, _^_, _≤_, _<_, min, max};
 ghost use lib.Dec.{leb, ltb};

@@ -1,5 +1,5 @@
 -- Signed numbers as two naturals: what stands above zero and what lies below, each a difference that stops at zero, so that one of the two is always 0.
--- `signed-floor` says that nothing is lost by it.
+-- `signed-down` says that nothing is lost by it, `one-side` that one of the two costs nothing.
 use Prim.Native.Nat.{ℕ, _+_, _*_, _-_, _/_, _≤_, _<_}
 use mathlib.Core.Path.{_≡_}
 use mathlib.Core.Logic.{_⊎_, inl, inr}

@@ -5,7 +5,7 @@ use borrow.Author.Needs.{needs}
 use Rattle.ship.specs.Refusals.{numberOf}
 use Rattle.ship.proofs.OneToOne.{number-above-0}
 use Rattle.record.specs.Layout.{shipIn}
-use Rattle.mark.specs.Exact.{Holds}
+use Rattle.mark.specs.Summer.{Holds}
 use Rattle.mark.specs.declared.Answer.{Answer}
 use Rattle.mark.specs.declared.Answer.the-variants.{Given, Refused}
 use Rattle.mark.specs.Others.{sheet}

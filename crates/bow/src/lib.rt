@@ -72,7 +72,7 @@ fn sheer_taken(sixth: Ordinate, fp: Ordinate) -> Freeboard
 {
     let s = sixth.0;
     if LIFT < s {
-        return units::freeboard_of_mm(fp.0);
+        return units::freeboard_of_sheer(fp);
     }
     Freeboard(0)
 }
@@ -91,7 +91,7 @@ fn forecastle_taken(l: Span, length: Span, height: Span) -> Freeboard
     Freeboard(0)
 }
 
-// The height that the bow must have, and what it has of it without a forecastle: both with the sheer's lift, which no house changes.
+// What adds to the height that the bow must have, and what takes from it before the forecastle does. Where sheer is taken, both have its lift.
 pub struct Height {
     pub above: Freeboard,
     pub below: Freeboard,

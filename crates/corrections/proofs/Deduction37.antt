@@ -11,13 +11,14 @@ use lib.ListN.{length, getD}
 use Rattle.whole.specs.Frac.{Frac, _≤f_, _*f_, whole, frac, floor}
 use Rattle.whole.specs.Pick.{pick}
 use Rattle.whole.specs.Round.{Below}
-use Rattle.whole.specs.Row.{Rising, height, heightIn, along}
+use Rattle.whole.specs.Row.{Rising, height, along}
 use Rattle.whole.proofs.Pick.{by-cases}
 use Rattle.whole.proofs.Divide.{mul-most, floor-most, min-mul}
 use Rattle.whole.proofs.Frac.{bot-of, refl≤, trans≤, *-mono≤}
 use Rattle.whole.proofs.Round.{loosen, by-floor, floor-of, floor-under, floor-test, near-times, near-mult, near-floor, millionths-down}
-use Rattle.whole.proofs.Row.{near-along, along-most, height-by, height-of-two, entry-rises, entry-most}
-use Rattle.corrections.specs.Deduction37.{full, exactFull, share, exactShare, tenth, shareFrom, ofFull, deduction, exactDeduction, lacksForecastle}
+use Rattle.whole.proofs.Row.{heightIn, near-along, along-most, height-by, height-of-two, entry-rises, entry-most}
+use Rattle.corrections.specs.Deduction37.{full, exactFull, share, exactShare, ofFull, deduction, exactDeduction, lacksForecastle}
+use Rattle.corrections.specs.Tenth37.{tenth, shareFrom}
 
 -- ---- the full amount: its rounding costs 1 um
 full-below : (l : ℕ) → Below (full l) (exactFull l) (whole 1)

@@ -1,7 +1,7 @@
 -- Regulation 37, the houses' deduction: the full amount by L, times the share by E / L. L in mm, E and the deduction in um.
 use mathlib.Core.Bool.{Bool, _&&_}
-use mathlib.Core.List.{List, [], _∷_}
-use Prim.Native.Nat.{ℕ, _*_, _-_, _/_, min}
+use mathlib.Core.List.{List}
+use Prim.Native.Nat.{ℕ, _*_, _-_}
 use lib.Dec.{ltb}
 use Rattle.whole.specs.Pick.{pick}
 use Rattle.whole.specs.Frac.{Frac, _<f?_, _+f_, _*f_, whole, frac, floor}
@@ -24,14 +24,6 @@ exactShare row l e = along row (e *f frac 1 (100 * l)) *f frac 1 1000
 -- in millionths, down
 unfoldable pub share : List ℕ → ℕ → ℕ → ℕ
 share row l e = floor (exactShare row l (whole e) *f whole 1000000)
-
--- the tenth of L in which E ends; E = L ends the last
-unfoldable pub tenth : ℕ → ℕ → ℕ
-tenth l e = min (e / (100 * l)) 9
-
--- with the percentages p and q at the ends of that tenth: by the row of these two, at what E has of the tenth
-unfoldable pub shareFrom : ℕ → ℕ → ℕ → ℕ → ℕ
-shareFrom p q l e = share (p ∷ q ∷ []) l (e - tenth l e * (100 * l))
 
 -- ---- the product
 unfoldable pub exactDeduction : List ℕ → ℕ → Frac → Frac

@@ -1,11 +1,12 @@
 -- The answers of the calls for C: 01's numbers laid out flat. Refusal 0 refuses nothing; beside any other all else is zero.
-use Prim.Native.Nat.{_+_, _*_, _^_, _<_}
+use Prim.Native.Nat.{_^_, _<_}
 use mathlib.Core.Path.{_≡_}
 use lib.Dec.{eqb}
 use lib.IntN.{pos, natAbs}
 use Rattle.whole.specs.Pick.{pick}
 use Rattle.ship.specs.declared.Ship.{Ship}
 use Rattle.ship.specs.Refusals.{Paper}
+use Rattle.record.specs.Layout.{recordLength}
 use Rattle.record.specs.Reading.{Reading}
 use Rattle.mark.specs.declared.Marks.{Marks}
 use Rattle.mark.specs.Summer.{Holds}
@@ -49,4 +50,4 @@ fromReading a = record { refusal = a .verdict .number; place = a .verdict .place
 
 -- with the record's length
 unfoldable pub fromVerdict : Paper → Ship → WriteAnswer
-fromVerdict p x = record { refusal = p .number; place = p .place; bytes = pick (eqb (p .number) 0) (27 + 8 * x .n) 0 }
+fromVerdict p x = record { refusal = p .number; place = p .place; bytes = pick (eqb (p .number) 0) (recordLength (x .n)) 0 }

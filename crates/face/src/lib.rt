@@ -1,11 +1,11 @@
 // The four calls for C, Rust and Python: numbers and slices go in, structs come back by value. include/loadline.h describes them to C.
 ghost use mathlib.Core.Path.{_≡_};
-ghost use Prim.Native.Nat.{_+_, _*_, _≤_};
+ghost use Prim.Native.Nat.{_≤_};
 ghost use lib.Dec.{eqb};
 ghost use lib.ListN.{length};
 ghost use Rattle.whole.specs.Pick.{pick};
 ghost use Rattle.ship.specs.Refusals.{paper};
-ghost use Rattle.record.specs.Layout.{shipIn};
+ghost use Rattle.record.specs.Layout.{recordLength, shipIn};
 ghost use Rattle.record.specs.Reading.{readingIn};
 ghost use Rattle.record.specs.Writing.{writingOf, written};
 ghost use Rattle.mark.specs.Others.{sheet};
@@ -17,6 +17,8 @@ ghost use Rattle.face.specs.Answers.{fromSheet, fromReply, fromReading, 
 use crate::flat::FlatShip;
 use mark::Answer;
 use mark::Marks;
+use record::HEAD_BYTES;
+use record::HOUSE_BYTES;
 use ship::refusal;
 use ship::refusal::Refusal;
 use ship::refusal::Verdict;
@@ -166,10 +168,10 @@ pub extern "C" fn loadline_read(bytes: &[u8]) -> ReadAnswer
 // The length of the record of `n` houses that was written, or 0 where it was refused.
 fn length_of(v: Verdict, n: usize) -> u64
     requires { ⌜ (paper v .number ≡ 0 → n ≤ 8) ⌝ }
-    ensures { λ r. ⌜ r ≡ pick (eqb (paper v .number) 0) (27 + 8 * n) 0 ⌝ }
+    ensures { λ r. ⌜ r ≡ pick (eqb (paper v .number) 0) (recordLength n) 0 ⌝ }
 {
     match v {
-        Verdict::Accepted => 27 + 8 * (n as u64),
+        Verdict::Accepted => (HEAD_BYTES + HOUSE_BYTES * n) as u64,
         Verdict::Refused(_) => 0,
     }
 }

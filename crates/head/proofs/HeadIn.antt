@@ -11,7 +11,7 @@ use Rattle.units.specs.Datum.{lift}
 use Rattle.record.specs.declared.Head.{Head}
 use Rattle.record.specs.Layout.{headWidths, headOf, headIn, ordinateIn}
 use Rattle.record.proofs.Complement.{turn-low}
-use Rattle.head.specs.Words.{first, fullness, four, last, sheerIn}
+use Rattle.head.specs.Words.{firstWidths, fullnessWidths, fourWidths, lastWidths, sheerIn}
 use Rattle.head.proofs.Cut.{piece-cut}
 
 -- the head that four words hold, as the reader takes them apart, with its ordinates of sheer
@@ -33,7 +33,7 @@ headOfWords a b d o = record {
 
 -- all fields, M in two
 abbrev cut : List ℕ
-cut = first ++ fullness ++ four ++ last
+cut = firstWidths ++ fullnessWidths ++ fourWidths ++ lastWidths
 
 -- and M whole again
 abbrev joined : List ℕ → List ℕ
@@ -48,7 +48,7 @@ ordinate-piece : (n a : ℕ) → ordinateIn (piece n a 14) ≡ ordinateIn (n / 2
 unfolding piece
 ordinate-piece n a = λ i. record { 0 = turn-low lift (n / 2 ^ a) i }
 
-pieces : (a b c d : ℕ) → headOf (joined (unpack first a ++ unpack fullness b ++ unpack four c ++ unpack last d)) ≡ headOfWords a b d (sheerIn c d)
+pieces : (a b c d : ℕ) → headOf (joined (unpack firstWidths a ++ unpack fullnessWidths b ++ unpack fourWidths c ++ unpack lastWidths d)) ≡ headOfWords a b d (sheerIn c d)
 unfolding unpack piece
 pieces a b c d =
     let whole : (n : ℕ) → n / 2 ^ 0 ≡ n = λ n. omega arith in
@@ -74,12 +74,12 @@ abbrev part : List ℕ → ℕ → ℕ → ℕ
 part s n m = number (take m (drop n s))
 
 module _ (s : List ℕ) (bs : Bytes s) (h : 27 ≤ length s) where
-  words : unpack cut (number (take 27 s)) ≡ unpack first (part s 0 8) ++ unpack fullness (part s 8 4) ++ unpack four (part s 12 7) ++ unpack last (part s 19 8)
+  words : unpack cut (number (take 27 s)) ≡ unpack firstWidths (part s 0 8) ++ unpack fullnessWidths (part s 8 4) ++ unpack fourWidths (part s 12 7) ++ unpack lastWidths (part s 19 8)
   unfolding unpack
   words =
-      unpack-parts s 19 8 (omega arith) bs (first ++ fullness ++ four) last refl
-      ∙ ap (λ (l : List ℕ). l ++ unpack last (part s 19 8)) (unpack-parts s 12 7 (omega arith) bs (first ++ fullness) four refl
-      ∙ ap (λ (l : List ℕ). l ++ unpack four (part s 12 7)) (unpack-parts s 8 4 (omega arith) bs first fullness refl))
+      unpack-parts s 19 8 (omega arith) bs (firstWidths ++ fullnessWidths ++ fourWidths) lastWidths refl
+      ∙ ap (λ (l : List ℕ). l ++ unpack lastWidths (part s 19 8)) (unpack-parts s 12 7 (omega arith) bs (firstWidths ++ fullnessWidths) fourWidths refl
+      ∙ ap (λ (l : List ℕ). l ++ unpack fourWidths (part s 12 7)) (unpack-parts s 8 4 (omega arith) bs firstWidths fullnessWidths refl))
 
   pub head-words : headIn s ≡ headOfWords (part s 0 8) (part s 8 4) (part s 19 8) (sheerIn (part s 12 7) (part s 19 8))
   unfolding headIn

@@ -11,7 +11,7 @@ use Rattle.bits.proofs.Fill.{two-parts}
 use Rattle.bits.proofs.Joined.{bytes-pack}
 use Rattle.record.specs.declared.Head.{Head}
 use Rattle.record.specs.Layout.{headWidths, headFields, headBytes}
-use Rattle.head.specs.Words.{first, fullness, four, last, firstFields, fullnessFields, fourFields, lastFields}
+use Rattle.head.specs.Words.{firstWidths, fullnessWidths, fourWidths, lastWidths, firstFields, fullnessFields, fourFields, lastFields}
 use Rattle.head.proofs.Cut.{value-cut}
 
 -- two words over two parts of a slice that they fill
@@ -48,7 +48,7 @@ unfolding pack
 pack-cut us vs v = value-cut v 4 (total us) (pack us vs)
 
 module _ (h : Head) (f : Fit headWidths (headFields h)) where
-  cut : pack headWidths (headFields h) ≡ pack ((first ++ fullness) ++ (four ++ last)) ((firstFields h ++ fullnessFields h) ++ (fourFields h ++ lastFields h))
+  cut : pack headWidths (headFields h) ≡ pack ((firstWidths ++ fullnessWidths) ++ (fourWidths ++ lastWidths)) ((firstFields h ++ fullnessFields h) ++ (fourFields h ++ lastFields h))
   cut =
       let ws = take 6 headWidths in
       let us = drop 7 headWidths in
@@ -60,11 +60,11 @@ module _ (h : Head) (f : Fit headWidths (headFields h)) where
       ∙ sym (pack-append ws (12 ∷ 4 ∷ us) vs (m / 2 ^ 4 ∷ m % 2 ^ 4 ∷ xs) refl)
 
   pub four-words : headBytes h
-      ≡ (bytes 8 (pack first (firstFields h)) ++ bytes 4 (pack fullness (fullnessFields h))) ++ (bytes 7 (pack four (fourFields h)) ++ bytes 8 (pack last (lastFields h)))
+      ≡ (bytes 8 (pack firstWidths (firstFields h)) ++ bytes 4 (pack fullnessWidths (fullnessFields h))) ++ (bytes 7 (pack fourWidths (fourFields h)) ++ bytes 8 (pack lastWidths (lastFields h)))
   unfolding headBytes
   four-words =
       ap (bytes 27) cut
-      ∙ bytes-pack 12 15 (first ++ fullness) (four ++ last) (firstFields h ++ fullnessFields h) (fourFields h ++ lastFields h) refl refl (omega arith)
+      ∙ bytes-pack 12 15 (firstWidths ++ fullnessWidths) (fourWidths ++ lastWidths) (firstFields h ++ fullnessFields h) (fourFields h ++ lastFields h) refl refl (omega arith)
       ∙ ap₂ _++_
-      (bytes-pack 8 4 first fullness (firstFields h) (fullnessFields h) refl refl (omega arith))
-      (bytes-pack 7 8 four last (fourFields h) (lastFields h) refl refl (omega arith))
+      (bytes-pack 8 4 firstWidths fullnessWidths (firstFields h) (fullnessFields h) refl refl (omega arith))
+      (bytes-pack 7 8 fourWidths lastWidths (fourFields h) (lastFields h) refl refl (omega arith))

@@ -9,20 +9,20 @@ use Rattle.record.specs.Layout.{headFields, ordinateIn}
 
 -- ---- the widths of the fields in each
 -- version, type, houses n, spare, L, D, the first bits of M
-abbrev pub first : List ℕ
-first = 4 ∷ 2 ∷ 4 ∷ 6 ∷ 20 ∷ 16 ∷ 12 ∷ []
+abbrev pub firstWidths : List ℕ
+firstWidths = 4 ∷ 2 ∷ 4 ∷ 6 ∷ 20 ∷ 16 ∷ 12 ∷ []
 
 -- the last bits of M, Cb, Cwf
-abbrev pub fullness : List ℕ
-fullness = 4 ∷ 14 ∷ 14 ∷ []
+abbrev pub fullnessWidths : List ℕ
+fullnessWidths = 4 ∷ 14 ∷ 14 ∷ []
 
 -- the ordinates of sheer from AP on
-abbrev pub four : List ℕ
-four = 14 ∷ 14 ∷ 14 ∷ 14 ∷ []
+abbrev pub fourWidths : List ℕ
+fourWidths = 14 ∷ 14 ∷ 14 ∷ 14 ∷ []
 
 -- the last two, displacement, immersion
-abbrev pub last : List ℕ
-last = 14 ∷ 14 ∷ 20 ∷ 16 ∷ []
+abbrev pub lastWidths : List ℕ
+lastWidths = 14 ∷ 14 ∷ 20 ∷ 16 ∷ []
 
 -- ---- and the fields themselves
 abbrev pub firstFields : Head → List ℕ

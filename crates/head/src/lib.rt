@@ -5,7 +5,7 @@ ghost use mathlib.Core.List.{_++_};
 ghost use lib.ListN.{length};
 ghost use Rattle.bits.specs.Fields.{pack, bytes, Fit};
 ghost use Rattle.record.specs.Layout.{headWidths, headFields, headBytes, headIn};
-ghost use Rattle.head.specs.Words.{first, fullness, four, last, firstFields, fullnessFields, fourFields, lastFields, sheerIn};
+ghost use Rattle.head.specs.Words.{firstWidths, fullnessWidths, fourWidths, lastWidths, firstFields, fullnessFields, fourFields, lastFields, sheerIn};
 use record::Head;
 use record::after;
 use record::range;
@@ -60,7 +60,7 @@ pub fn read(s: &[u8]) -> Head
 // Version, type, houses n, spare, L, D and the first bits of M.
 fn first_word(h: Head) -> u64
     requires { ⌜ Fit headWidths (headFields h) ⌝ }
-    ensures { λ r. ⌜ r ≡ pack first (firstFields h) ⌝ }
+    ensures { λ r. ⌜ r ≡ pack firstWidths (firstFields h) ⌝ }
 {
     let word = h.version * range::KIND + h.kind;
     let word = word * range::COUNT + h.count;
@@ -73,7 +73,7 @@ fn first_word(h: Head) -> u64
 // The last bits of M, Cb and Cwf.
 fn fullness_word(h: Head) -> u64
     requires { ⌜ Fit headWidths (headFields h) ⌝ }
-    ensures { λ r. ⌜ r ≡ pack fullness (fullnessFields h) ⌝ }
+    ensures { λ r. ⌜ r ≡ pack fullnessWidths (fullnessFields h) ⌝ }
 {
     let word = h.moulded.0 % range::MOULDED_LAST * range::BLOCK + h.block;
     word * range::WATERPLANE + h.waterplane
@@ -81,7 +81,7 @@ fn fullness_word(h: Head) -> u64
 
 // The first four ordinates of sheer.
 fn four_word(h: Head) -> u64
-    ensures { λ r. ⌜ r ≡ pack four (fourFields h) ⌝ }
+    ensures { λ r. ⌜ r ≡ pack fourWidths (fourFields h) ⌝ }
 {
     let o = h.sheer;
     let word = record::ordinate_field(o[0]);
@@ -93,7 +93,7 @@ fn four_word(h: Head) -> u64
 // The last two, displacement and immersion.
 fn last_word(h: Head) -> u64
     requires { ⌜ Fit headWidths (headFields h) ⌝ }
-    ensures { λ r. ⌜ r ≡ pack last (lastFields h) ⌝ }
+    ensures { λ r. ⌜ r ≡ pack lastWidths (lastFields h) ⌝ }
 {
     let o = h.sheer;
     let word = record::ordinate_field(o[4]);

@@ -121,11 +121,11 @@ pub fn reach_of(l: Span, h: House) -> u64
     ensures { λ r. ⌜ r ≡ reachOf (l .0) h ⌝ }
     ensures { λ r. ⌜ r ≤ 2 * l .0 ⌝ }
 {
-    let tenth = l.0;
+    let tenth = units::tenth_in_tenths(l);
     let ap = units::forward_of_ap(Span(0));
     let aft = units::in_tenths(h.aft);
     let fore = units::in_tenths(h.fore);
-    let amidships = units::in_tenths(ap) + 5 * tenth;
+    let amidships = units::in_tenths(ap) + units::half_in_tenths(l);
     if h.enclosed & (aft <= amidships) & (amidships <= fore) {
         return lesser(less(fore, amidships), tenth) + lesser(less(amidships, aft), tenth);
     }

@@ -1,4 +1,4 @@
--- Mark (regulation 40): the summer mark, in mm, from freeboards in um; and demand 2's measure of it.
+-- Mark (regulation 40): the summer mark, in mm, from freeboards in um; and how far it may lie above its exact value.
 use Prim.Native.Nat.{ℕ}
 use Rattle.whole.specs.Frac.{Frac, _≤f_, _<f_, _+f_, _*f_, _-f_, maxf, whole, frac, ceil}
 

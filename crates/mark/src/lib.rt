@@ -108,8 +108,7 @@ pub fn follow(p: Particulars, s: u64) -> Answer
     ensures { λ r. ⌜ sheet r ≡ sheetAt p s ⌝ }
 {
     let depth = p.depth;
-    let mm = depth.0;
-    if mm <= s {
+    if units::is_at_keel(depth, s) {
         return Answer::Refused(Refusal::NoDraught);
     }
     let d = units::draught(depth, s);

@@ -1,4 +1,4 @@
--- Demand 2's exact value: the same steps, tests and floor for a ship, with no rounding anywhere. Freeboards in um, the mark in mm.
+-- The exact value, which S is held against: the same steps, tests and floor for a ship, with no rounding anywhere. Freeboards in um, the mark in mm.
 use Prim.Native.Nat.{ℕ}
 use mathlib.Core.List.{List}
 use Rattle.whole.specs.Frac.{Frac, _+f_}

@@ -32,9 +32,9 @@ fn shortest(x: Ship, height: Span, wish: u64) -> Answer
     ensures { λ r. ⌜ reply r ≡ shortestFor x (height .0) wish ⌝ }
 {
     let q = trial::standing_of(x, height, wish);
-    let l = x.length.0;
+    let most = units::dm_within(x.length);
     let mut k: u64 = 0;
-    while 100 * k <= l {
+    while k <= most {
         if trial::fits(q, k) {
             return Answer::Poop(k);
         }

@@ -68,7 +68,7 @@ spareIn t = getD (unpack houseWidths (number t)) 5 0
 
 -- the eight bytes of the house at place k
 abbrev pub houseAt : List ℕ → ℕ → List ℕ
-houseAt s k = take 8 (drop (27 + 8 * k) s)
+houseAt s k = take 8 (drop (recordLength k) s)
 
 -- ---- houses, one after the other
 abbrev pub housesBytes : List House → List ℕ

@@ -1,4 +1,4 @@
-// The layout of the ship record, version 1: a head, then the houses. Reader and writer take every position and width from here.
+// The layout of the ship record, version 1: a head, then the houses. Reader and writer take the width and the place of every field from here.
 ghost use mathlib.Core.Path.{_≡_};
 ghost use Prim.Native.Nat.{_*_, _≤_, _<_};
 ghost use Rattle.units.specs.Datum.{datum, lift};
@@ -44,7 +44,7 @@ pub struct Head {
 // Two's complement counts from 0 up and wraps to the negative half; stations and ordinates count from the lowest negative up.
 // So the two halves of the range change places, and change back the same way.
 fn turned(half: u64, u: u64) -> u64
-    requires { ⌜ (1 ≤ half) × (half ≤ 1048576) ⌝ }
+    requires { ⌜ (1 ≤ half) × (half ≤ datum) ⌝ }
     ensures { λ r. ⌜ (r ≡ turn half u) × (r < 2 * half) ⌝ }
 {
     let range = 2 * half;

@@ -1,4 +1,4 @@
-// Document 01's table of the record: how many bits each field has.
+// Document 01's table of the record: how many bits each field has. M has 16; they stand in two words, and so in two parts.
 // ---- the head
 pub const VERSION: u64 = 4;
 

@@ -11,7 +11,7 @@ use Rattle.units.specs.Datum.{lift, sheerAt}
 abbrev pub weighted : ℕ → ℕ → ℕ → ℕ
 weighted perpendicular sixth third = perpendicular + 3 * sixth + 3 * third
 
--- the actual sums, lifted as their seven ordinates are
+-- the actual sums: their lift is that of one ordinate times the multipliers, 1 + 3 + 3
 unfoldable pub afterSum : List Ordinate → ℕ
 afterSum o = weighted (sheerAt o 0) (sheerAt o 1) (sheerAt o 2)
 

@@ -9,7 +9,7 @@ use units::LIFT;
 use units::Ordinate;
 use units::Span;
 
-// Sums are in 30000ths of a millimetre, where the standard is whole. The lift of a half's seven ordinates:
+// Sums are in 30000ths of a millimetre, where the standard is whole. A half's lift is that of an ordinate times its multipliers, 1 + 3 + 3:
 const LIFT7: u64 = 30000 * (7 * LIFT);
 
 // The correction in its two parts.

@@ -1,7 +1,8 @@
 // The units that regulation 28 keeps apart, a type for each: none can be added to another. A number crosses from one to another only in a
-// function of this file, or in that of a regulation's formula, which makes a freeboard, or an effective length, of lengths.
+// function of this file, or in that of a regulation's formula, which makes a freeboard, or an effective length, of lengths. A plain number gets
+// its unit where it comes in: from a record, from C, from who asks.
 ghost use mathlib.Core.Path.{_≡_};
-ghost use Prim.Native.Nat.{_+_, _-_, _*_, _^_, _≤_, _<_, min, max};
+ghost use Prim.Native.Nat.{_+_, _-_, _*_, _/_, _^_, _≤_, _<_, min, max};
 ghost use lib.Dec.{leb, ltb};
 ghost use Rattle.whole.specs.Divide.{ceilDiv};
 ghost use Rattle.units.specs.Datum.{datum, lift, stationOf, mmOf, stationAt, sheerOf, ordinateAt, countedFrom};
@@ -29,7 +30,7 @@ pub const LIFT: u64 = 8192;
 
 // So many millimetres from a zero, negative ones below it and no farther than the number 0.
 fn counted_from(zero: u64, mm: i64) -> u64
-    requires { ⌜ zero ≤ 1048576 ⌝ }
+    requires { ⌜ zero ≤ datum ⌝ }
     ensures { λ r. ⌜ r ≡ countedFrom zero mm ⌝ }
 {
     let size = whole::size(mm);
@@ -42,7 +43,7 @@ fn counted_from(zero: u64, mm: i64) -> u64
 // ---- stations
 // The station that lies `l` forward of the after perpendicular.
 pub fn forward_of_ap(l: Span) -> Station
-    requires { ⌜ l .0 ≤ 1048575 ⌝ }
+    requires { ⌜ l .0 < datum ⌝ }
     ensures { λ r. ⌜ r .0 ≡ stationOf (l .0) ⌝ }
 {
     let mm = l.0;
@@ -95,13 +96,27 @@ pub fn between(aft: Station, fore: Station) -> Span
     Span(whole::less(fore.0, aft.0))
 }
 
-// A station in tenths of a millimetre: half a ship's length is whole in these.
+// A station, half a length and a tenth of it, in tenths of a millimetre: each is whole in these.
 pub fn in_tenths(s: Station) -> u64
     requires { ⌜ s .0 < 2 ^ 32 ⌝ }
     ensures { λ r. ⌜ r ≡ 10 * s .0 ⌝ }
 {
     let mm = s.0;
     10 * mm
+}
+
+pub fn half_in_tenths(l: Span) -> u64
+    requires { ⌜ l .0 < 2 ^ 32 ⌝ }
+    ensures { λ r. ⌜ r ≡ 5 * l .0 ⌝ }
+{
+    let mm = l.0;
+    5 * mm
+}
+
+pub fn tenth_in_tenths(l: Span) -> u64
+    ensures { λ r. ⌜ r ≡ l .0 ⌝ }
+{
+    l.0
 }
 
 // A station as signed millimetres forward of the after perpendicular.
@@ -152,7 +167,14 @@ pub fn mm_below(o: Ordinate) -> u64
 }
 
 // ---- lengths, effective lengths and freeboards
-// The length of `k` decimetres.
+// The whole decimetres in a length, and the length of `k` of them.
+pub fn dm_within(l: Span) -> u64
+    ensures { λ r. ⌜ r ≡ l .0 / 100 ⌝ }
+{
+    let mm = l.0;
+    mm / 100
+}
+
 pub fn span_of_dm(k: u64) -> Span
     requires { ⌜ k ≤ 2 ^ 32 ⌝ }
     ensures { λ r. ⌜ r .0 ≡ 100 * k ⌝ }
@@ -162,7 +184,7 @@ pub fn span_of_dm(k: u64) -> Span
 
 // A length in micrometres.
 pub fn effective_of(l: Span) -> Effective
-    requires { ⌜ l .0 ≤ 1048575 ⌝ }
+    requires { ⌜ l .0 < 2 ^ 32 ⌝ }
     ensures { λ r. ⌜ r .0 ≡ 1000 * l .0 ⌝ }
 {
     let mm = l.0;
@@ -171,10 +193,18 @@ pub fn effective_of(l: Span) -> Effective
 
 // The freeboard of `mm` millimetres.
 pub fn freeboard_of_mm(mm: u64) -> Freeboard
-    requires { ⌜ mm ≤ 1048575 ⌝ }
+    requires { ⌜ mm < 2 ^ 32 ⌝ }
     ensures { λ r. ⌜ r .0 ≡ 1000 * mm ⌝ }
 {
     Freeboard(1000 * mm)
+}
+
+// What a freeboard is less by for an ordinate of sheer. It is still lifted.
+pub fn freeboard_of_sheer(o: Ordinate) -> Freeboard
+    requires { ⌜ o .0 < 2 ^ 32 ⌝ }
+    ensures { λ r. ⌜ r .0 ≡ 1000 * o .0 ⌝ }
+{
+    freeboard_of_mm(o.0)
 }
 
 // A freeboard in whole millimetres, up.
@@ -209,7 +239,14 @@ pub fn greater(a: Freeboard, b: Freeboard) -> Freeboard
     Freeboard(whole::greater(a.0, b.0))
 }
 
-// The draught at a mark so many millimetres below the deck line; 0 where the mark would lie below the keel.
+// Whether a mark so many millimetres below the deck line lies at the keel or below it; and the draught at one that does not, 0 at one that does.
+pub fn is_at_keel(depth: Span, mark: u64) -> bool
+    ensures { λ r. ⌜ r ≡ leb (depth .0) mark ⌝ }
+{
+    let mm = depth.0;
+    mm <= mark
+}
+
 pub fn draught(depth: Span, mark: u64) -> u64
     ensures { λ r. ⌜ r ≡ depth .0 - mark ⌝ }
 {

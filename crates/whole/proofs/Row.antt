@@ -9,7 +9,11 @@ use lib.ListN.{length, getD}
 use Rattle.whole.proofs.Divide.{min-mul, sub-mul}
 use Rattle.whole.specs.Frac.{Frac, _≤f_, _≈f_, _+f_, _*f_, _-f_, whole}
 use Rattle.whole.specs.Round.{Near}
-use Rattle.whole.specs.Row.{Rises, Rising, gain, height, heightIn, along}
+use Rattle.whole.specs.Row.{Rises, Rising, gain, height, along}
+
+-- the value from the beginning of the segment j, in which the place lies: as code works it
+unfoldable pub heightIn : List ℕ → ℕ → ℕ → ℕ → ℕ
+heightIn row j t d = getD row j 0 * d + (getD row (j + 1) 0 - getD row j 0) * (t - j * d)
 
 -- ---- the four laws of the gain, each by induction over the segments
 gain-mono : (p : ℕ) (ps : List ℕ) (t u d : ℕ) → t ≤ u → gain p ps t d ≤ gain p ps u d

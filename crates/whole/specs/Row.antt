@@ -2,7 +2,6 @@
 -- a place is counted in entries, as the fraction t / d. The value is a sum over the segments, so that no law has a case at an entry.
 use mathlib.Core.List.{List, [], _∷_}
 use Prim.Native.Nat.{ℕ, _+_, _*_, _-_, _≤_, min}
-use lib.ListN.{getD}
 use Rattle.whole.specs.Frac.{Frac}
 
 -- each entry after p is at least the one before it and at most m above it, and the last is at most M
@@ -27,10 +26,6 @@ gain p (q ∷ ps) t d = (q - p) * min d t + gain q ps (t - d) d
 unfoldable pub height : List ℕ → ℕ → ℕ → ℕ
 height [] t d = 0
 height (p ∷ ps) t d = p * d + gain p ps t d
-
--- the same from the beginning of the segment j, in which the place lies
-unfoldable pub heightIn : List ℕ → ℕ → ℕ → ℕ → ℕ
-heightIn row j t d = getD row j 0 * d + (getD row (j + 1) 0 - getD row j 0) * (t - j * d)
 
 -- ---- as a fraction of a fraction
 abbrev pub along : List ℕ → Frac → Frac

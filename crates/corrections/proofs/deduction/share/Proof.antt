@@ -4,7 +4,7 @@ use Prim.Native.Nat.{_*_, _-_, _≤_}
 use borrow.Author.Needs.{needs}
 use native.Mathlib.Omega.{arith}
 use Rattle.whole.proofs.Divide.{mul-most}
-use Rattle.corrections.specs.Deduction37.{shareFrom}
+use Rattle.corrections.specs.Tenth37.{shareFrom}
 use Rattle.corrections.proofs.Deduction37.{tenth-begins, share-of-two, share-from-most}
 use Rattle.corrections.proofs.deduction.share.Statement.{statement}
 use Rattle.corrections.proofs.deduction.share.Tie as tie

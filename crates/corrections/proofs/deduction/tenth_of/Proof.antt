@@ -1,7 +1,7 @@
 -- What `lesser` promises is the definition.
 use borrow.Author.Needs.{needs}
 use native.Mathlib.Omega.{arith}
-use Rattle.corrections.specs.Deduction37.{tenth}
+use Rattle.corrections.specs.Tenth37.{tenth}
 use Rattle.corrections.proofs.deduction.tenth_of.Statement.{statement}
 use Rattle.corrections.proofs.deduction.tenth_of.Tie as tie
 

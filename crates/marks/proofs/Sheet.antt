@@ -8,10 +8,11 @@ use Rattle.ship.specs.Refusals.{Paper, Line, accepted, refused, numberOf, place
 use Rattle.ship.proofs.Lines.{beside-refusal}
 use Rattle.record.specs.Layout.{shipIn}
 use Rattle.record.specs.Reading.{readingIn}
+use Rattle.record.proofs.Framed.{read-is-good}
 use Rattle.record.proofs.Calls.{call-read, call-refused}
 use Rattle.mark.specs.declared.Marks.{Marks}
 use Rattle.mark.specs.Others.{Sheet, noMarks, sixMarks, markLines, sheetOf, sheetAt}
-use Rattle.marks.specs.Steps.{summerOf}
+use Rattle.marks.specs.Steps.{Sound, summerOf}
 use Rattle.marks.specs.Marks.{particularsOf, sheetFor, sheetIn}
 
 -- the call's answer by its verdict, and its own lines
@@ -24,6 +25,10 @@ more x = markLines (particularsOf x) (summerOf x)
 pub sheet-read : (s : List ℕ) (x : Ship) → readingIn s ≡ record { verdict = accepted; ship = x } → sheetIn s ≡ sheetFor x
 unfolding sheetIn sheetFor sheetAt
 sheet-read s x e = call-read answer more s x e
+
+-- and the ship is one that the steps can take
+pub sound-read : (s : List ℕ) (x : Ship) → readingIn s ≡ record { verdict = accepted; ship = x } → Sound x
+sound-read s x e = let g = read-is-good s x e in record { type = g .0; few = g .1; good = g .2 }
 
 pub sheet-refused : (s : List ℕ) (r : Refusal) → readingIn s .verdict ≡ refused (numberOf r) (placeOf r)
     → sheetIn s ≡ record { verdict = refused (numberOf r) (placeOf r); marks = noMarks }

@@ -4,8 +4,8 @@ use Rattle.whole.specs.Pick as Pick
 use Rattle.whole.specs.Divide as Divide
 use Rattle.whole.specs.Row as Row
 use Rattle.tables.specs.Table28 as Table28
-use Rattle.tables.specs.Tabular as Tabular
-use Rattle.tables.specs.Table37 as Table37
+use Rattle.tabular.specs.Tabular as Tabular
+use Rattle.percentages.specs.Table37 as Table37
 use Rattle.ship.specs.Refusals as Refusals
 use Rattle.ship.specs.Checks as Checks
 use Rattle.bits.specs.Fields as Fields

@@ -9,8 +9,8 @@ use Rattle.whole.specs.Frac.{Frac}
 use Rattle.units.specs.declared.Ordinate.{Ordinate}
 use Rattle.units.specs.Datum.{stationOf, lift}
 use Rattle.tables.specs.Table28.{table28A, table28B}
-use Rattle.tables.specs.Tabular.{tabular}
-use Rattle.tables.specs.Table37.{ordinaryRow}
+use Rattle.tabular.specs.Tabular.{tabular}
+use Rattle.percentages.specs.Table37.{ordinaryRow}
 use Rattle.ship.specs.declared.House.{House}
 use Rattle.ship.specs.declared.Ship.{Ship}
 use Rattle.record.specs.Layout.{headFields, headIn, houseFields, houseIn, houseAt, shipIn}

@@ -1,10 +1,10 @@
 // Regulation 28: the tabular freeboard between the rows of its two tables.
 ghost use mathlib.Core.Path.{_≡_};
 ghost use Prim.Native.Nat.{_+_, _*_, _-_, _%_, _≤_, _<_, min};
 ghost use Rattle.tables.specs.Table28.{table28A, table28B};
-ghost use Rattle.tables.specs.Tabular.{tabular, rowOf};
-use crate::table28a;
-use crate::table28b;
+ghost use Rattle.tabular.specs.Tabular.{tabular, rowOf};
+use tables::table28a;
+use tables::table28b;
 use units::Freeboard;
 use units::Span;
 

@@ -1,15 +1,15 @@
 -- Laws of the tabular freeboard, from the rule of the rows: A is at most B, and it grows with the length.
-use mathlib.Core.Path.{_≡_, ap}
+use mathlib.Core.Path.{_≡_, ap, ap₂, _∙_}
 use mathlib.Core.List.{List}
-use Prim.Native.Nat.{ℕ, zero, suc, _+_, _*_, _-_, _%_, _≤_, _<_}
+use Prim.Native.Nat.{ℕ, zero, suc, _+_, _*_, _-_, _%_, _≤_, _<_, min}
 use native.Mathlib.Nat.{le-refl, le-trans, le-of-lt, mul-le-mul-right}
 use native.Mathlib.Numerals.{add-one}
 use native.Mathlib.Decide.{decLt}
 use native.Mathlib.Omega.{arith}
 use lib.ListN.{getD}
 use Rattle.tables.proofs.Rule28.{rule}
 use Rattle.tables.specs.Table28.{table28A, table28B}
-use Rattle.tables.specs.Tabular.{tabular, rowOf, nextOf}
+use Rattle.tabular.specs.Tabular.{tabular, rowOf, nextOf}
 
 -- what the laws ask of a table, and each of the two has
 pub record Rows (t : List ℕ) : Type 0 where
@@ -45,10 +45,22 @@ pair {t} r l h = record { up = up; small = r .small (nextOf l) (omega arith) }
           | no g ↦ (let e : nextOf l ≡ rowOf l = omega arith in rw e (le-refl _))
         ]
 
--- so the two rows are what the interpolation asks
-pub fits : {t : List ℕ} → Rows t → (l : ℕ) → l ≤ 365000 → {lo hi : ℕ} → lo ≡ getD t (rowOf l) 0 → hi ≡ getD t (nextOf l) 0
-    → (lo ≤ hi) × (hi ≤ 6000)
-fits r l h d e = (let q = pair r l h in omega arith)
+-- the rows k and j that code finds for a length, with what they hold
+module _ (t : List ℕ) (l : ℕ) {k j lo hi : ℕ} (ek : k ≡ rowOf l) (ej : j ≡ min (k + 1) 341) (elo : lo ≡ getD t k 0) (ehi : hi ≡ getD t j 0) where
+  low : lo ≡ getD t (rowOf l) 0
+  low = elo ∙ ap (λ (i : ℕ). getD t i 0) ek
+
+  high : hi ≡ getD t (nextOf l) 0
+  high = ehi ∙ ap (λ (i : ℕ). getD t i 0) (ej ∙ ap (λ (i : ℕ). min (i + 1) 341) ek)
+
+  -- are what the interpolation asks
+  pub fits : Rows t → l ≤ 365000 → (lo ≤ hi) × (hi ≤ 6000)
+  fits r h = (let q = pair r l h in omega (arith, low, high))
+
+  -- and it gives the tabular freeboard
+  pub line : 1000 * lo + (l % 1000) * (hi - lo) ≡ tabular t l
+  unfolding tabular
+  line = ap₂ (λ (x y : ℕ). 1000 * x + (l % 1000) * (y - x)) low high
 
 pub tabular-at-most-next : {t : List ℕ} → Rows t → (l : ℕ) → l ≤ 365000 → tabular t l ≤ getD t (nextOf l) 0 * 1000
 unfolding tabular

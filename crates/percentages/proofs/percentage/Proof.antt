@@ -3,12 +3,12 @@ use Prim.Native.Nat.{ℕ, _≤_}
 use mathlib.Core.Path.{_≡_, sym, ap}
 use lib.ListN.{getD}
 use borrow.Author.Needs.{needs}
-use Rattle.tables.specs.declared.table37.Row.{Row}
-use Rattle.tables.specs.declared.table37.Row.the-variants.{Ordinary, Timber, Older, OlderBridge}
-use Rattle.tables.specs.Table37.{ordinaryRow, timberRow, olderRow, olderBridgeRow, entries}
-use Rattle.tables.proofs.Percentages.{each-row}
-use Rattle.tables.proofs.table37.percentage.Statement.{statement}
-use Rattle.tables.proofs.table37.percentage.Tie as tie
+use Rattle.percentages.specs.declared.Row.{Row}
+use Rattle.percentages.specs.declared.Row.the-variants.{Ordinary, Timber, Older, OlderBridge}
+use Rattle.percentages.specs.Table37.{ordinaryRow, timberRow, olderRow, olderBridgeRow, entries}
+use Rattle.percentages.proofs.Rule37.{each-row}
+use Rattle.percentages.proofs.percentage.Statement.{statement}
+use Rattle.percentages.proofs.percentage.Tie as tie
 
 entry : (row arm : Row) (k : ℕ) → row ≡ arm → (getD (entries arm) k 0 ≡ getD (entries row) k 0) × (getD (entries arm) k 0 ≤ 1000)
 entry row arm k e = (sym (ap (λ (r : Row). getD (entries r) k 0) e), each-row arm .most k)

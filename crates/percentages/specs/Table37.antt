@@ -1,8 +1,8 @@
 -- The percentages of the houses' deduction (37, 45), in tenths of a per cent at E/L = 0, 0.1 .. 1.0.
 use mathlib.Core.List.{List, [], _∷_}
 use Prim.Native.Nat.{ℕ}
-use Rattle.tables.specs.declared.table37.Row.{Row}
-use Rattle.tables.specs.declared.table37.Row.the-variants.{Ordinary, Timber, Older, OlderBridge}
+use Rattle.percentages.specs.declared.Row.{Row}
+use Rattle.percentages.specs.declared.Row.the-variants.{Ordinary, Timber, Older, OlderBridge}
 
 -- table 37.1
 unfoldable pub ordinaryRow : List ℕ

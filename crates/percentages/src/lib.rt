@@ -2,7 +2,7 @@
 ghost use mathlib.Core.Path.{_≡_};
 ghost use Prim.Native.Nat.{_≤_, _<_};
 ghost use lib.ListN.{getD};
-ghost use Rattle.tables.specs.Table37.{entries};
+ghost use Rattle.percentages.specs.Table37.{entries};
 
 // Table 37.1.
 const ORDINARY: [u64; 11] = [0, 70, 140, 210, 310, 410, 520, 630, 753, 877, 1000];

@@ -4,10 +4,13 @@ use Rattle.whole.specs.Pick as Pick
 use Rattle.whole.specs.Divide as Divide
 use Rattle.whole.specs.Row as Row
 use Rattle.tables.specs.Table28 as Table28
-use Rattle.tables.specs.Tabular as Tabular
-use Rattle.tables.specs.Table37 as Table37
+use Rattle.tabular.specs.Tabular as Tabular
+use Rattle.percentages.specs.Table37 as Table37
 use Rattle.ship.specs.Refusals as Refusals
 use Rattle.ship.specs.Checks as Checks
+use Rattle.bits.specs.Fields as Fields
+use Rattle.record.specs.Layout as Layout
+use Rattle.record.specs.Reading as Reading
 use Rattle.houses.specs.Length as Length
 use Rattle.houses.specs.Height as Height
 use Rattle.houses.specs.Effective as Effective
@@ -27,12 +30,16 @@ use Rattle.marks.specs.Steps as Steps
 use Rattle.marks.specs.Marks as Marks
 use Rattle.poop.specs.Poop as Poop
 use Rattle.poop.specs.Question as Question
-use Rattle.figures.specs.Figures.{asked, house, ship90, k1, k2, figures, allAgree}
+use Rattle.figures.specs.Figures.{k1, k2, bowHeight, marksRow, askedRow, house, figures, agree, allAgree}
 
 -- what a figure computes through
 unfoldable Tools : Type 0
-unfolding Pick.pick Divide.ceilDiv Row.gain Row.height Table28.table28A Table28.table28B Tabular.tabular Table37.ordinaryRow Refusals.first Checks.firstFrom Checks.breaks Checks.breachAt Checks.firstBreach
+unfolding Pick.pick Divide.ceilDiv Row.gain Row.height Table28.table28A Table28.table28B Tabular.tabular Table37.ordinaryRow Refusals.first
 Tools = Unit {0}
+
+unfoldable Reader : Type 0
+unfolding Fields.pack Fields.piece Fields.unpack Fields.number Layout.houseIn Layout.spareIn Layout.headIn Layout.placesIn Layout.shipIn Reading.sparesIn Checks.firstFrom Checks.fieldOut Checks.breaks Checks.breachAt Checks.firstBreach
+Reader = Unit {0}
 
 unfoldable Houses : Type 0
 unfolding Length.partOf Length.total Length.coveredLength Height.ordinaryHeight Height.raisedHeight Height.standardHeight Effective.limitedLength Effective.exactEffective Effective.effectiveOf Effective.effectiveLength Forecastle.houseThat Forecastle.isForecastle Forecastle.forecastleOf Cover.isAmidships Cover.reachOf Cover.reach
@@ -43,13 +50,13 @@ unfolding Short29.exactShortB Short29.shortB Fullness30.exactFullness Fullness30
 Corrections = Unit {0}
 
 unfoldable Marking : Type 0
-unfolding Summer.exactSummer Summer.summerMark Others.tropical Others.winter Others.atlantic Others.allowance Others.sixMarks Others.sheetAt Basis.basisOf Steps.coveredS Steps.effectiveE Steps.forecastleHouse Steps.coverReach Steps.addedTo Steps.takenFrom Steps.bowOf Steps.summerOf Marks.particularsOf Marks.sheetFor
+unfolding Summer.exactSummer Summer.summerMark Others.tropical Others.winter Others.atlantic Others.allowance Others.sixMarks Others.sheetAt Basis.basisOf Steps.coveredS Steps.effectiveE Steps.forecastleHouse Steps.coverReach Steps.addedTo Steps.takenFrom Steps.bowOf Steps.summerOf Marks.particularsOf Marks.sheetIn
 Marking = Unit {0}
 
 unfoldable Asking : Type 0
-unfolding Poop.poopHouse Poop.withFirst Poop.withPoop Poop.within Poop.marksWithin Poop.fitsAt Question.shortestFrom Question.shortestFor Question.replyFor
+unfolding Poop.poopHouse Poop.withFirst Poop.withPoop Poop.within Poop.marksWithin Poop.fitsAt Question.shortestFrom Question.shortestFor Question.replyIn
 Asking = Unit {0}
 
 pub claim : T (allAgree figures)
-unfolding house ship90 k1 k2 figures allAgree asked Tools Houses Corrections Marking Asking
+unfolding k1 k2 bowHeight marksRow askedRow house figures agree allAgree Tools Reader Houses Corrections Marking Asking
 claim = tt

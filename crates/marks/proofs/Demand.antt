@@ -10,9 +10,9 @@ use Rattle.whole.specs.Round.{Within, Below}
 use Rattle.whole.proofs.Pick.{by-cases}
 use Rattle.whole.proofs.Round.{loosen, exactly}
 use Rattle.units.specs.Datum.{sheerAt}
-use Rattle.tables.specs.declared.table37.Row.the-variants.{Ordinary}
-use Rattle.tables.specs.Table37.{ordinaryRow}
-use Rattle.tables.proofs.Percentages.{each-row}
+use Rattle.percentages.specs.declared.Row.the-variants.{Ordinary}
+use Rattle.percentages.specs.Table37.{ordinaryRow}
+use Rattle.percentages.proofs.Rule37.{each-row}
 use Rattle.ship.specs.declared.Ship.{Ship}
 use Rattle.ship.specs.Vessel.{housesOf}
 use Rattle.ship.specs.Refusals.{Paper, first}

@@ -4,7 +4,7 @@ use mathlib.Core.Bool.{Bool}
 use Rattle.whole.specs.Pick.{pick}
 use Rattle.whole.specs.Frac.{Frac, whole}
 use Rattle.tables.specs.Table28.{table28A, table28B}
-use Rattle.tables.specs.Tabular.{tabular}
+use Rattle.tabular.specs.Tabular.{tabular}
 
 pub record Basis : Type 0 where
   pub line : ℕ

@@ -3,7 +3,7 @@ use Prim.Native.Nat.{ℕ}
 use mathlib.Core.List.{List}
 use Rattle.whole.specs.Frac.{Frac, _+f_}
 use Rattle.units.specs.Datum.{sheerAt}
-use Rattle.tables.specs.Table37.{ordinaryRow}
+use Rattle.percentages.specs.Table37.{ordinaryRow}
 use Rattle.ship.specs.declared.Ship.{Ship}
 use Rattle.ship.specs.Vessel.{housesOf}
 use Rattle.houses.specs.Length.{partOf}

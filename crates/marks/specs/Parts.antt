@@ -5,7 +5,7 @@ use mathlib.Core.List.{List}
 use Rattle.whole.specs.Pick.{pick}
 use Rattle.whole.specs.Frac.{whole}
 use Rattle.units.specs.Datum.{lift, sheerAt}
-use Rattle.tables.specs.Table37.{ordinaryRow}
+use Rattle.percentages.specs.Table37.{ordinaryRow}
 use Rattle.ship.specs.declared.Ship.{Ship}
 use Rattle.corrections.specs.Short29.{shortB}
 use Rattle.corrections.specs.Fullness30.{counted, fullness}

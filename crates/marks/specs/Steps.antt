@@ -4,7 +4,7 @@ use mathlib.Core.Bool.{Bool}
 use mathlib.Core.List.{List}
 use lib.Dec.{eqb}
 use Rattle.units.specs.Datum.{sheerAt}
-use Rattle.tables.specs.Table37.{ordinaryRow}
+use Rattle.percentages.specs.Table37.{ordinaryRow}
 use Rattle.ship.specs.declared.House.{House}
 use Rattle.ship.specs.declared.Ship.{Ship}
 use Rattle.ship.specs.Vessel.{housesOf}

@@ -9,7 +9,6 @@ use corrections::depth;
 use corrections::fullness;
 use sheer::Mean;
 use ship::Ship;
-use tables::table28;
 use units::Freeboard;
 use units::Span;
 
@@ -40,10 +39,10 @@ fn basis_of(b: bool, l: Span) -> Basis
     ensures { λ r. ⌜ (r .line .0 ≤ 6000000) × (r .floor ≤ 60000) ⌝ }
 {
     if b {
-        let line = table28::tabular_b(l);
+        let line = tabular::tabular_b(l);
         return Basis { line, floor: LEAST };
     }
-    let line = table28::tabular_a(l);
+    let line = tabular::tabular_a(l);
     Basis { line, floor: LEAST }
 }
 

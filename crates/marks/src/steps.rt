@@ -2,7 +2,7 @@
 ghost use mathlib.Core.Path.{_≡_};
 ghost use Prim.Native.Nat.{_+_, _*_, _≤_, _^_};
 ghost use Rattle.whole.specs.Pick.{pick};
-ghost use Rattle.tables.specs.Table37.{entries};
+ghost use Rattle.percentages.specs.Table37.{entries};
 ghost use Rattle.corrections.specs.Deduction37.{deduction};
 ghost use Rattle.deck.specs.Deck.{FairDeck};
 ghost use Rattle.sheer.specs.Sheer as Sheer;
@@ -11,8 +11,7 @@ use crate::hull::Hull;
 use corrections::before_sheer;
 use corrections::deduction;
 use deck::Deck;
-use tables::table37;
-use tables::table37::Row;
+use percentages::Row;
 use units::Effective;
 use units::Freeboard;
 use units::Span;
@@ -24,8 +23,8 @@ fn deduction_by(row: Row, l: Span, e: Effective) -> Freeboard
     ensures { λ r. ⌜ r .0 ≤ 1070000 ⌝ }
 {
     let j = deduction::tenth_of(l, e);
-    let p = table37::percentage(row, j);
-    let q = table37::percentage(row, j + 1);
+    let p = percentages::percentage(row, j);
+    let q = percentages::percentage(row, j + 1);
     deduction::of_full(l, deduction::share(p, q, l, e))
 }
 

@@ -3,7 +3,7 @@ use Prim.Native.Nat.{_+_, _≤_}
 use native.Mathlib.Omega.{arith}
 use Rattle.whole.specs.Frac.{_+f_, _*f_, whole, frac}
 use Rattle.units.specs.Datum.{lift, sheerAt}
-use Rattle.tables.specs.Table37.{ordinaryRow}
+use Rattle.percentages.specs.Table37.{ordinaryRow}
 use Rattle.ship.specs.declared.Ship.{Ship}
 use Rattle.ship.specs.Vessel.{housesOf}
 use Rattle.houses.specs.Length.{partOf}

@@ -1,7 +1,7 @@
 -- 01, "Steps to the summer mark", of a ship, with signs and no rounding. 38 and 39 are Formula.antt's; what needs no sign is the exact value of its own
 -- regulation's crate. Freeboards in um, the mark in mm.
 use Rattle.whole.specs.Frac.{whole, frac}
-use Rattle.tables.specs.Table37.{ordinaryRow}
+use Rattle.percentages.specs.Table37.{ordinaryRow}
 use Rattle.ship.specs.declared.Ship.{Ship}
 use Rattle.houses.specs.Length.{partOf}
 use Rattle.houses.specs.Effective.{exactEffective}

@@ -1,5 +1,5 @@
 -- The two neighbours that the tenth names give the row's own share.
-use Rattle.tables.proofs.Percentages.{each-row}
+use Rattle.percentages.proofs.Rule37.{each-row}
 use Rattle.corrections.specs.Deduction37.{deduction}
 use Rattle.corrections.proofs.Deduction37.{neighbours, share-read}
 use native.Mathlib.Omega.{arith}

@@ -8,8 +8,8 @@ use Rattle.whole.specs.Pick.{pick}
 use Rattle.units.specs.Datum.{stationOf, lift, sheerAt}
 use Rattle.ship.specs.declared.House.{House}
 use Rattle.ship.specs.declared.Ship.{Ship}
-use Rattle.ship.specs.declared.checks.Rule.{Rule}
-use Rattle.ship.specs.declared.checks.Rule.the-variants.{EndsAndHeight, RaisedQuarterdeck, NoOverlap}
+use Rattle.ship.specs.declared.rule.Rule.{Rule}
+use Rattle.ship.specs.declared.rule.Rule.the-variants.{EndsAndHeight, RaisedQuarterdeck, NoOverlap}
 use Rattle.ship.specs.Vessel.{housesOf, houseAt}
 use Rattle.ship.specs.Refusals.{Line, refused}
 

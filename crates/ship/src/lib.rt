@@ -7,8 +7,8 @@ use units::Ordinate;
 use units::Span;
 use units::Station;
 
-pub mod checks;
 pub mod refusal;
+pub mod rule;
 
 // A house on the freeboard deck, from its after end to its fore end.
 pub struct House {

@@ -1,7 +1,7 @@
 use mathlib.Core.Path.{refl}
 use borrow.Author.Needs.{needs}
-use Rattle.ship.proofs.checks.breaks_any.Statement.{statement}
-use Rattle.ship.proofs.checks.breaks_any.Tie as tie
+use Rattle.house_checks.proofs.breaks_any.Statement.{statement}
+use Rattle.house_checks.proofs.breaks_any.Tie as tie
 
 pub breaks-any-spec : {M : Type 1} → statement M
 breaks-any-spec =

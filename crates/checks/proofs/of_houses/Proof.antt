@@ -6,10 +6,10 @@ use native.Mathlib.Omega.{arith}
 use borrow.Author.Needs.{needs}
 use borrow.Author.Tests.{le-ltb}
 use Rattle.whole.specs.Pick.{pick}
-use Rattle.ship.specs.declared.checks.Rule.the-variants.{EndsAndHeight, RaisedQuarterdeck, NoOverlap}
+use Rattle.ship.specs.declared.rule.Rule.the-variants.{EndsAndHeight, RaisedQuarterdeck, NoOverlap}
 use Rattle.ship.specs.Refusals.{first}
-use Rattle.ship.proofs.checks.of_houses.Statement.{statement}
-use Rattle.ship.proofs.checks.of_houses.Tie as tie
+use Rattle.checks.proofs.of_houses.Statement.{statement}
+use Rattle.checks.proofs.of_houses.Tie as tie
 
 -- the list has n houses
 long : (s : tie.Start) → length (take (s .args .n) (s .args .houses)) ≡ s .args .n

@@ -8,14 +8,14 @@ use native.Mathlib.Nat.{sub-zero}
 use native.Mathlib.Numerals.{add-one}
 use native.Mathlib.Omega.{arith}
 use borrow.Author.Needs.{needs}
 use Rattle.ship.specs.declared.House.{House}
-use Rattle.ship.specs.declared.checks.Rule.{Rule}
-use Rattle.ship.specs.declared.checks.Rule.the-variants.{EndsAndHeight, RaisedQuarterdeck, NoOverlap}
+use Rattle.ship.specs.declared.rule.Rule.{Rule}
+use Rattle.ship.specs.declared.rule.Rule.the-variants.{EndsAndHeight, RaisedQuarterdeck, NoOverlap}
 use Rattle.ship.specs.Checks.{breaks, breachAt, foreBefore, firstBreach, firstFrom}
 use Rattle.ship.proofs.First.{first-pass, first-end}
 use Rattle.ship.proofs.Lines.{or-false}
-use Rattle.ship.proofs.checks.all_keep.Statement.{statement}
-use Rattle.ship.proofs.checks.all_keep.Tie as tie
+use Rattle.checks.proofs.all_keep.Statement.{statement}
+use Rattle.checks.proofs.all_keep.Tie as tie
 
 abbrev Inv-loop : tie.InvT-loop
 Inv-loop l n houses before₀ k₀ before k =

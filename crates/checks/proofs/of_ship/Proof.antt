@@ -3,11 +3,11 @@ use native.Mathlib.Omega.{arith}
 use borrow.Author.Needs.{needs}
 use borrow.Author.Tests.{lt-ltb, le-ltb}
 use Rattle.whole.specs.Pick.{pick}
 use Rattle.ship.specs.Refusals.{first}
 use Rattle.ship.specs.Checks.{fieldsOf, fieldOut}
 use Rattle.ship.proofs.Accepted.{in-range}
-use Rattle.ship.proofs.checks.of_ship.Statement.{statement}
-use Rattle.ship.proofs.checks.of_ship.Tie as tie
+use Rattle.checks.proofs.of_ship.Statement.{statement}
+use Rattle.checks.proofs.of_ship.Tie as tie
 
 -- the field that the search found is the definition's
 told : (c : tie.After-field-out) → c .field-out .result ≡ fieldOut (fieldsOf (c .before .before .args .x))

@@ -3,10 +3,10 @@ use Prim.Native.Nat.{_-_, _≤_}
 use mathlib.Core.Path.{_≡_, sym, _∙_}
 use native.Mathlib.Omega.{arith}
 use borrow.Author.Needs.{needs}
 use Rattle.ship.specs.Checks.{outside, fieldOut, firstFrom}
 use Rattle.ship.proofs.First.{first-fail, first-pass, first-end}
-use Rattle.ship.proofs.checks.field_out.Statement.{statement}
-use Rattle.ship.proofs.checks.field_out.Tie as tie
+use Rattle.checks.proofs.field_out.Statement.{statement}
+use Rattle.checks.proofs.field_out.Tie as tie
 
 abbrev Inv-loop : tie.InvT-loop
 Inv-loop fields least most k₀ k = (k ≤ 13) × (fieldOut fields ≡ firstFrom (outside fields) k (13 - k))

@@ -1,8 +1,8 @@
 -- Each arm is its rule's own text.
 use borrow.Author.Needs.{needs}
 use Rattle.ship.specs.Checks.{breaks}
-use Rattle.ship.proofs.checks.house_breaks.Statement.{statement}
-use Rattle.ship.proofs.checks.house_breaks.Tie as tie
+use Rattle.house_checks.proofs.house_breaks.Statement.{statement}
+use Rattle.house_checks.proofs.house_breaks.Tie as tie
 
 pub house-breaks-spec : {M : Type 1} → statement M
 unfolding breaks

@@ -7,10 +7,10 @@ use native.Mathlib.Nat.{sub-zero}
 use native.Mathlib.Numerals.{add-one}
 use native.Mathlib.Omega.{arith}
 use borrow.Author.Needs.{needs}
 use Rattle.ship.specs.Checks.{breachAt, foreBefore, firstBreach, firstFrom}
 use Rattle.ship.proofs.First.{first-fail, first-pass, first-end}
-use Rattle.ship.proofs.checks.first_breach.Statement.{statement}
-use Rattle.ship.proofs.checks.first_breach.Tie as tie
+use Rattle.checks.proofs.first_breach.Statement.{statement}
+use Rattle.checks.proofs.first_breach.Tie as tie
 
 abbrev Inv-loop : tie.InvT-loop
 Inv-loop rule l n houses before₀ k₀ before k =

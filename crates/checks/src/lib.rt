@@ -3,15 +3,18 @@ ghost use mathlib.Core.Bool.{true, _||_};
 ghost use mathlib.Core.Path.{_≡_};
 ghost use Prim.Native.Nat.{_≤_, _<_, _+_};
 ghost use lib.ListN.{length, take};
 ghost use Rattle.ship.specs.Refusals.{paper, first};
 ghost use Rattle.ship.specs.Checks.{fieldsOf, fieldOut, breaks, badEnds, badQuarterdeck, firstBreach, houseLines, shipLines};
-ghost use Rattle.ship.specs.declared.checks.Rule.{Rule};
-ghost use Rattle.ship.specs.declared.checks.Rule.the-variants.{EndsAndHeight, RaisedQuarterdeck, NoOverlap};
-use crate::House;
-use crate::Ship;
-use crate::refusal;
-use crate::refusal::Refusal;
-use crate::refusal::Verdict;
+ghost use Rattle.ship.specs.declared.rule.Rule.{Rule};
+ghost use Rattle.ship.specs.declared.rule.Rule.the-variants.{EndsAndHeight, RaisedQuarterdeck, NoOverlap};
+use house_checks::breaks_any;
+use house_checks::house_breaks;
+use ship::House;
+use ship::Ship;
+use ship::refusal;
+use ship::refusal::Refusal;
+use ship::refusal::Verdict;
+use ship::rule::Rule;
 use units::LIFT;
 use units::Span;
 use units::Station;
@@ -76,65 +79,6 @@ fn field_out(fields: [u64; 13]) -> usize
     k
 }
 
-// How far a house may stand out beyond either perpendicular.
-const BEYOND: u64 = 20000;
-
-// What checks 9, 10 and 11 ask of a house.
-pub enum Rule {
-    EndsAndHeight,
-    RaisedQuarterdeck,
-    NoOverlap,
-}
-
-// Check 9 on one house: its ends and its height.
-fn bad_ends(l: Span, h: House) -> bool
-    requires { ⌜ l .0 ≤ 365000 ⌝ }
-    ensures { λ r. ⌜ r ≡ badEnds (l .0) h ⌝ }
-{
-    let mm = l.0;
-    let aft = h.aft;
-    let fore = h.fore;
-    let height = h.height.0;
-    let ap = units::forward_of_ap(Span(0));
-    let fp = units::forward_of_ap(l);
-    let aft_most = units::abaft_of_ap(Span(BEYOND));
-    let fore_most = units::forward_of_ap(Span(mm + BEYOND));
-    units::is_at_or_abaft(fore, aft)
-        | units::is_at_or_abaft(fore, ap)
-        | units::is_at_or_abaft(fp, aft)
-        | units::is_abaft(aft, aft_most)
-        | units::is_abaft(fore_most, fore)
-        | (height < 1)
-        | (8191 < height)
-}
-
-// Check 10 on one house.
-fn bad_quarterdeck(l: Span, h: House) -> bool
-    requires { ⌜ l .0 ≤ 365000 ⌝ }
-    ensures { λ r. ⌜ r ≡ badQuarterdeck (l .0) h ⌝ }
-{
-    let aft = h.aft;
-    let fore = h.fore;
-    let ap = units::forward_of_ap(Span(0));
-    let fp = units::forward_of_ap(l);
-    h.quarterdeck & (!h.enclosed | units::is_abaft(ap, aft) | units::is_at_or_abaft(fp, fore))
-}
-
-// Whether a house breaks a rule; `before` is the fore end of the house before it.
-fn house_breaks(rule: Rule, l: Span, before: Station, h: House) -> bool
-    requires { ⌜ l .0 ≤ 365000 ⌝ }
-    ensures { λ r. ⌜ r ≡ breaks rule (l .0) (before .0) h ⌝ }
-{
-    match rule {
-        Rule::EndsAndHeight => bad_ends(l, h),
-        Rule::RaisedQuarterdeck => bad_quarterdeck(l, h),
-        Rule::NoOverlap => {
-            let aft = h.aft;
-            units::is_abaft(aft, before)
-        }
-    }
-}
-
 // The first of `n` houses that breaks a rule, or `n`.
 fn first_breach(rule: Rule, l: Span, houses: [House; 8], n: usize) -> usize
     requires { ⌜ (l .0 ≤ 365000) × (n ≤ 8) ⌝ }
@@ -151,17 +95,6 @@ fn first_breach(rule: Rule, l: Span, houses: [House; 8], n: usize) -> usize
         k += 1;
     }
     k
-}
-
-// Whether a house breaks any of the three.
-fn breaks_any(l: Span, before: Station, h: House) -> bool
-    requires { ⌜ l .0 ≤ 365000 ⌝ }
-    ensures { λ r. ⌜ r ≡ (breaks EndsAndHeight (l .0) (before .0) h || breaks RaisedQuarterdeck (l .0) (before .0) h || breaks NoOverlap (l .0) (before .0) h) ⌝ }
-{
-    let ends = house_breaks(Rule::EndsAndHeight, l, before, h);
-    let deck = house_breaks(Rule::RaisedQuarterdeck, l, before, h);
-    let lap = house_breaks(Rule::NoOverlap, l, before, h);
-    ends | deck | lap
 }
 
 // Whether all of `n` houses keep the three: most lists do, and one pass shows it.

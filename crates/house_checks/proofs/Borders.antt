@@ -14,15 +14,15 @@ module _ (a b c d : ℕ) where
   pub lt-is-lt : (a < b → c < d) → (c < d → a < b) → ltb a b ≡ ltb c d
   lt-is-lt f g =
       elim (decLt a b) [
-        yes h ↦ rw (lt-ltb a b h, lt-ltb c d (f h)) refl
-      | no h ↦ elim (decLt c d) [ yes k ↦ absurd (h (g k)) | no k ↦ rw (le-ltb a b (omega arith), le-ltb c d (omega arith)) refl ]
+        | yes h ↦ rw (lt-ltb a b h, lt-ltb c d (f h)) refl
+        | no h ↦ elim (decLt c d) [ yes k ↦ absurd (h (g k)) | no k ↦ rw (le-ltb a b (omega arith), le-ltb c d (omega arith)) refl ]
       ]
 
   pub lt-is-le : (a < b → c ≤ d) → (c ≤ d → a < b) → ltb a b ≡ leb c d
   lt-is-le f g =
       elim (decLt a b) [
-        yes h ↦ rw (lt-ltb a b h, le-leb c d (f h)) refl
-      | no h ↦ elim (decLt d c) [ yes k ↦ rw (le-ltb a b (omega arith), lt-leb c d k) refl | no k ↦ absurd (h (g (omega arith))) ]
+        | yes h ↦ rw (lt-ltb a b h, le-leb c d (f h)) refl
+        | no h ↦ elim (decLt d c) [ yes k ↦ rw (le-ltb a b (omega arith), lt-leb c d k) refl | no k ↦ absurd (h (g (omega arith))) ]
       ]
 
 -- 9 and 10 in lengths: the definitions set two stations beside each other, the code what lies between them

@@ -1,4 +1,4 @@
-// What checks 9, 10 and 11 ask of a house.
+// The rules that checks 9, 10 and 11 hold a house to.
 pub enum Rule {
     EndsAndHeight,
     RaisedQuarterdeck,

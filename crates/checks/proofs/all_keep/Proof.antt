@@ -18,12 +18,12 @@ use Rattle.checks.proofs.all_keep.Statement.{statement}
 use Rattle.checks.proofs.all_keep.Tie as tie
 
 abbrev Inv-loop : tie.InvT-loop
-Inv-loop l n houses before₀ k₀ before k =
+Inv-loop l n houses reached₀ k₀ reached k =
     let hs = take n houses in
-    (k ≤ n) × (before .0 ≡ foreBefore hs k) × ((r : Rule) → firstBreach r (l .0) hs ≡ firstFrom (breachAt r (l .0) hs) k (n - k))
+    (k ≤ n) × (reached .0 ≡ foreBefore hs k) × ((r : Rule) → firstBreach r (l .0) hs ≡ firstFrom (breachAt r (l .0) hs) k (n - k))
 
 abbrev μ-loop : tie.MeasureT-loop
-μ-loop l n houses before₀ k₀ before k = n - k
+μ-loop l n houses reached₀ k₀ reached k = n - k
 
 -- a house that breaks none of the three keeps each
 each : (l before : ℕ) (h : House) → (breaks EndsAndHeight l before h || breaks RaisedQuarterdeck l before h || breaks NoOverlap l before h) ≡ false → (r : Rule) → breaks r l before h ≡ false
@@ -41,7 +41,7 @@ keeps c r =
     let l = c .before .before .before .before in
     let a = l .before .args in
     let h : l .loop .k < a .n = omega arith in
-    rw (← l .loop .inv .1, getD-take (a .n) (a .t2) (l .loop .k) _ h) (each (a .l .0) (l .loop .before .0) _ (sym (c .before .breaks-any .ensures) ∙ c .if1 .left) r)
+    rw (← l .loop .inv .1, getD-take (a .n) (a .t2) (l .loop .k) _ h) (each (a .l .0) (l .loop .reached .0) _ (sym (c .before .breaks-any .ensures) ∙ c .if1 .left) r)
 
 pub all-keep-spec : {M : Type 1} → statement M
 unfolding firstBreach

@@ -1,34 +1,47 @@
-use mathlib.Core.Path.{_≡_, refl, ap, _∙_}
+-- Fields that are refused hide the houses; fields that are accepted leave the verdict to them.
+use Prim.Native.Nat.{_≤_}
+use mathlib.Core.Path.{_≡_, sym, ap, _∙_}
 use native.Mathlib.Omega.{arith}
 use borrow.Author.Needs.{needs}
-use borrow.Author.Tests.{lt-ltb, le-ltb}
-use Rattle.whole.specs.Pick.{pick}
-use Rattle.ship.specs.Refusals.{first}
-use Rattle.ship.specs.Checks.{fieldsOf, fieldOut}
+use borrow.Author.Tests.{ltb-false}
+use Rattle.ship.specs.declared.Ship.{Ship}
+use Rattle.ship.specs.declared.refusal.Verdict.{Verdict}
+use Rattle.ship.specs.Vessel.{housesOf}
+use Rattle.ship.specs.Refusals.{Paper, paper, first, accepted}
+use Rattle.ship.specs.Checks.{fieldsOf, fieldOut, fieldLines, houseLines}
+use Rattle.ship.proofs.Lines.{all-pass, first-accepted, first-refused}
 use Rattle.ship.proofs.Accepted.{in-range}
 use Rattle.checks.proofs.of_ship.Statement.{statement}
 use Rattle.checks.proofs.of_ship.Tie as tie
 
--- the field that the search found is the definition's
-told : (c : tie.After-field-out) → c .field-out .result ≡ fieldOut (fieldsOf (c .before .before .args .x))
-told c = c .field-out .ensures .0 ∙ ap fieldOut (c .before .fields .ensures)
+-- the verdict on the fields
+told : (c : tie.After-of-fields) (v : Verdict) → c .of-fields .result ≡ v → first (fieldLines (c .before .args .x)) ≡ paper v
+told c v e = sym (c .of-fields .ensures) ∙ ap paper e
+
+-- L is in its range
+length-most : (x : Ship) → first (fieldLines x) ≡ accepted → x .length .0 ≤ 365000
+length-most x e =
+    let p = all-pass (fieldLines x) (omega arith) (ap (λ (v : Paper). v .number) e) in
+    in-range (fieldsOf x) 0 (omega (arith, ltb-false (fieldOut (fieldsOf x)) 13 (p .0))) .1
 
 pub of-ship-spec : {M : Type 1} → statement M
-unfolding first pick
 of-ship-spec =
     tie.close
     (tie.spec
     (λ c κs. search needs)
-    (λ c κs. search needs)
+    (λ c. search needs)
+    (λ c κs.
+    let t = c .before .before in
+    let f = t .before .before in
+    (length-most (f .before .args .x) (told f _ (t .enum-told .given .1)), omega arith))
     (λ c. search needs)
     (λ c.
-    let e = told (c .before) in
-    rw (← e, lt-ltb _ _ (c .if1 .taken)) refl)
-    (λ c κs.
-    let f = c .before .before .before in
-    (in-range (fieldsOf (f .before .before .args .x)) 0 (rw (← told f) (omega arith)) .1, omega arith))
-    (λ c κs. search needs)
+    let t = c .before .before .before in
+    let f = t .before .before in
+    let x = f .before .args .x in
+    c .of-houses .ensures ∙ sym (first-accepted (fieldLines x) (houseLines (x .length .0) (housesOf x)) (omega arith) (told f _ (t .enum-told .given .1))))
     (λ c.
-    let h = c .before .before .before in
-    let f = h .before .before .before .before in
-    rw (← told f, le-ltb _ _ (h .before .before .before .if1 .left), c .line .ensures, h .of-houses .ensures) refl))
+    let v = c .before in
+    let f = v .before .before in
+    let x = f .before .args .x in
+    sym (first-refused (fieldLines x) (houseLines (x .length .0) (housesOf x)) (v .v .given .0 .0) (omega arith) (told f _ (v .v .given .1)))))

@@ -17,4 +17,4 @@ house-breaks-spec =
     (λ c κs. search needs)
     (λ c. rw (c .before .enum-told .given .1) (c .bad-ends .ensures))
     (λ c. rw (c .before .enum-told2 .given .1) (c .bad-quarterdeck .ensures))
-    (λ c. rw (c .before .before .enum-told3 .given .1) (c .is-abaft .ensures)))
+    (λ c. rw (c .before .before .enum-told3 .given .1) (search needs)))

@@ -5,8 +5,8 @@ use native.Mathlib.Omega.{arith}
 use borrow.Author.Needs.{needs}
 use Rattle.ship.specs.Checks.{outside, fieldOut, firstFrom}
 use Rattle.ship.proofs.First.{first-fail, first-pass, first-end}
-use Rattle.checks.proofs.field_out.Statement.{statement}
-use Rattle.checks.proofs.field_out.Tie as tie
+use Rattle.field_checks.proofs.field_out.Statement.{statement}
+use Rattle.field_checks.proofs.field_out.Tie as tie
 
 abbrev Inv-loop : tie.InvT-loop
 Inv-loop fields least most k₀ k = (k ≤ 13) × (fieldOut fields ≡ firstFrom (outside fields) k (13 - k))

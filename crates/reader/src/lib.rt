@@ -16,7 +16,6 @@ use record::after;
 use record::range;
 use ship::House;
 use ship::Ship;
-use ship::checks;
 use ship::refusal::Refusal;
 use ship::refusal::Verdict;
 use units::Span;

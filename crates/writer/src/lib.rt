@@ -14,7 +14,6 @@ use record::Head;
 use record::range;
 use ship::House;
 use ship::Ship;
-use ship::checks;
 use ship::refusal::Refusal;
 use ship::refusal::Verdict;
 

@@ -22,10 +22,10 @@ use Rattle.sheer.specs.Sheer as Sheer
 use Rattle.bow.specs.Bow as Bow
 use Rattle.mark.specs.Summer as Summer
 use Rattle.mark.specs.Others as Others
-use Rattle.marks.specs.Basis as Basis
-use Rattle.marks.specs.Steps as Steps
+use Rattle.steps.specs.Basis as Basis
+use Rattle.steps.specs.Steps as Steps
 use Rattle.marks.specs.Marks as Marks
-use Rattle.poop.specs.Poop as Poop
+use Rattle.trial.specs.Poop as Poop
 use Rattle.poop.specs.Question as Question
 use Rattle.figures.specs.Figures.{asked, house, ship90, k1, k2, figures, allAgree}
 

@@ -21,9 +21,9 @@ use Rattle.houses.specs.Cover.{reach}
 use Rattle.corrections.specs.Depth31.{depthAddition}
 use Rattle.sheer.specs.Sheer as Sheer
 use Rattle.bow.specs.Bow.{higher, lower}
-use Rattle.marks.specs.Steps.{addedTo, takenFrom, summerOf}
+use Rattle.steps.specs.Steps.{addedTo, takenFrom, summerOf}
 use Rattle.marks.specs.Marks.{sheetFor}
-use Rattle.poop.specs.Poop.{withPoop}
+use Rattle.trial.specs.Poop.{withPoop}
 use Rattle.poop.specs.Question.{Reply, replyFor}
 
 pub record Row : Type 0 where

@@ -5,10 +5,10 @@ use lib.ListN.{length, length-map}
 use native.Mathlib.Nat.{sub-zero}
 use native.Mathlib.Omega.{arith}
 use borrow.Author.Needs.{needs}
-use Rattle.poop.specs.Standing.{fitsOn}
+use Rattle.trial.specs.Standing.{fitsOn}
 use Rattle.poop.specs.Question.{shortestFrom, shortestFor}
-use Rattle.poop.proofs.Search.{hit, miss, end}
-use Rattle.poop.proofs.Standing.{length-stands, searched}
+use Rattle.trial.proofs.Trial.{length-stands}
+use Rattle.poop.proofs.Search.{hit, miss, end, searched}
 use Rattle.poop.proofs.shortest.Statement.{statement}
 use Rattle.poop.proofs.shortest.Tie as tie
 

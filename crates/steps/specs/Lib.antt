@@ -1,0 +1,4 @@
+pub mod Basis
+pub mod Steps
+pub mod Exact
+pub mod Parts

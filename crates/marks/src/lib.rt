@@ -4,11 +4,11 @@ ghost use Rattle.record.specs.Layout.{shipIn};
 ghost use Rattle.mark.specs.Others.{sheet};
 ghost use Rattle.steps.specs.Steps.{Sound, basis};
 ghost use Rattle.marks.specs.Marks.{particularsOf, sheetFor, sheetIn, Bounded};
+use hull::summer;
 use mark::Answer;
 use mark::Particulars;
 use ship::Ship;
 use ship::refusal::Verdict;
-use steps::hull;
 
 // What the other marks need of a ship. The floor is the least freeboard that its type decides.
 pub fn particulars_of(x: Ship, floor: u64) -> Particulars
@@ -35,7 +35,7 @@ pub fn of_ship(x: Ship) -> Answer
     let hs = x.houses;
     let h = hull::hull_of(x);
     let d = deck::deck_of(x.length, hs, x.n);
-    let s = steps::summer_on(h, d);
+    let s = summer::summer_on(h, d);
     mark::follow(particulars_of(x, h.basis.floor), s)
 }
 

@@ -1,9 +1,9 @@
 -- Demand 2: the summer mark of every accepted ship is never below its exact value, and less than 1.1 mm above it.
 -- What each rounding can cost is composed along the formula: 3.7 um and 4 um before sheer, 2 um by sheer, 13 um in the bow's; the mark has room for 100.
-use Prim.Native.Nat.{_*_, _≤_}
+use Prim.Native.Nat.{_*_, _-_, _≤_}
 use native.Mathlib.Omega.{arith}
 use lib.ListN.{length-take}
-use Rattle.whole.specs.Frac.{whole, frac}
+use Rattle.whole.specs.Frac.{_-f_, whole, frac}
 use Rattle.whole.specs.Round.{Within, Below}
 use Rattle.whole.proofs.Pick.{by-cases}
 use Rattle.whole.proofs.Round.{loosen, exactly}
@@ -37,18 +37,29 @@ short : (x : Ship) → Sound x → Below (effectiveE x) (exactE x) (whole 8)
 unfolding effectiveE exactE
 short x k = effective-length-short (x .length .0) (housesOf x) (omega (arith, length-take (x .n) (x .houses), k .few))
 
-pub summer-bounded : (x : Ship) → Sound x → Holds (summerOf x) (exactSummerOf x)
-unfolding addedTo takenFrom bowOf summerOf exactAddedTo exactTakenFrom exactBowOf exactSummerOf
-summer-bounded x k =
+-- the corrected value, what is added less what is taken: never below the exact difference, and at most 9.7 um above it
+pub corrected-within : (x : Ship) → Sound x → Within (addedTo x - takenFrom ordinaryRow x) (exactAddedTo x -f exactTakenFrom ordinaryRow x) (frac 97 10)
+unfolding addedTo takenFrom exactAddedTo exactTakenFrom
+corrected-within x k =
     let g = k .good in
     let l = x .length .0 in
-    let cb = counted (x .block) in
-    let f = forecastleHouse x in
     let w = short x k in
     let r : coverReach x ≤ 2 * l = unfold coverReach in reach-most l (housesOf x) (g .houses) in
-    let a = loosen {f = frac 37 10} (omega arith) (added-within (line-exact x) (typeB x) l (x .depth .0) cb (effectiveE x) (exactE x) (g .length-least) (omega arith) w) in
-    let d = deducted-below (each-row Ordinary .rising) (typeB x) (exactEffective l f) l (effectiveE x) (exactE x) (g .length-least) w in
+    let a = loosen {f = frac 37 10} (omega arith) (added-within (line-exact x) (typeB x) l (x .depth .0) (counted (x .block)) (effectiveE x) (exactE x) (g .length-least) (omega arith) w) in
+    let d = deducted-below (each-row Ordinary .rising) (typeB x) (exactEffective l (forecastleHouse x)) l (effectiveE x) (exactE x) (g .length-least) w in
+    loosen (omega arith) (sheer-within (x .sheer) l (coveredS x) (coverReach x) (omega arith) r a d)
+
+-- the bow's freeboard: never below the exact one, and at most 13 um above it
+pub bow-freeboard-within : (x : Ship) → Sound x → Within (bowOf x) (exactBowOf x) (whole 13)
+unfolding bowOf exactBowOf
+bow-freeboard-within x k =
+    let g = k .good in
+    let l = x .length .0 in
+    let f = forecastleHouse x in
+    bow-within l (x .moulded .0) (counted (x .block)) (x .waterplane) (sheerAt (x .sheer) 4) (sheerAt (x .sheer) 5) (partOf l f) (f .height .0) (g .moulded-least) (g .length-most) (omega arith) (g .waterplane-most)
+
+pub summer-bounded : (x : Ship) → Sound x → Holds (summerOf x) (exactSummerOf x)
+unfolding summerOf exactSummerOf
+summer-bounded x k =
     summer-holds (basis x .floor) (addedTo x) (takenFrom ordinaryRow x) (exactAddedTo x) (exactTakenFrom ordinaryRow x)
-    (loosen (omega arith) (sheer-within (x .sheer) l (coveredS x) (coverReach x) (omega arith) r a d))
-    (loosen (omega arith)
-    (bow-within l (x .moulded .0) cb (x .waterplane) (sheerAt (x .sheer) 4) (sheerAt (x .sheer) 5) (partOf l f) (f .height .0) (g .moulded-least) (g .length-most) (omega arith) (g .waterplane-most)))
+    (loosen (omega arith) (corrected-within x k)) (loosen (omega arith) (bow-freeboard-within x k))

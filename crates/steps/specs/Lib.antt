@@ -1,4 +1,3 @@
 pub mod Basis
 pub mod Steps
 pub mod Exact
-pub mod Parts

@@ -26,9 +26,9 @@ use Rattle.deck.specs.Deck.{deckOf, deckWith, FairDeck}
 use Rattle.deck.proofs.Gathered.{deck-with, fair-deck}
 use Rattle.mark.specs.Others.{markLines}
 use Rattle.steps.specs.Steps.{Sound, summerOf}
-use Rattle.steps.specs.Parts.{hullOf, summerOn, FairHull}
+use Rattle.hull.specs.Parts.{hullOf, summerOn, FairHull}
 use Rattle.marks.specs.Marks.{particularsOf}
-use Rattle.steps.proofs.Parts.{summer-parts}
+use Rattle.hull.proofs.Parts.{summer-parts}
 use Rattle.marks.proofs.Particulars.{fair-particulars}
 use Rattle.trial.specs.declared.Standing.{Standing}
 use Rattle.trial.specs.Poop.{poopHouse, withFirst, withPoop, within, marksWithin, fitsAt}

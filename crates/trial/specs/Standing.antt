@@ -9,7 +9,7 @@ use Rattle.ship.specs.Vessel.{housesOf, houseAt}
 use Rattle.deck.specs.declared.Deck.{Deck}
 use Rattle.deck.specs.Deck.{deckOf, deckWith, FairDeck}
 use Rattle.mark.specs.Others.{markLines}
-use Rattle.steps.specs.Parts.{hullOf, summerOn, FairHull}
+use Rattle.hull.specs.Parts.{hullOf, summerOn, FairHull}
 use Rattle.marks.specs.Marks.{particularsOf}
 use Rattle.trial.specs.declared.Standing.{Standing}
 use Rattle.trial.specs.Poop.{poopHouse, within}

@@ -5,12 +5,12 @@ ghost use Rattle.steps.specs.Steps.{Sound};
 ghost use Rattle.trial.specs.Poop.{poopHouse};
 ghost use Rattle.trial.specs.Standing.{roomOf, standingOf, deckFor, markedOn, fitsOn, Fair};
 use deck::Deck;
+use hull::Hull;
+use hull::summer;
 use mark::Answer;
 use mark::Particulars;
 use ship::House;
 use ship::Ship;
-use steps::hull;
-use steps::hull::Hull;
 use units::Span;
 
 // What no length of poop changes: the hull, the deck without a poop, how far a poop may reach, what the marks need besides, and what is asked.
@@ -111,5 +111,5 @@ pub fn fits(q: Standing, k: u64) -> bool
     }
     let hull = q.hull;
     let d = deck_for(q, k);
-    marked(q, steps::summer_on(hull, d))
+    marked(q, summer::summer_on(hull, d))
 }

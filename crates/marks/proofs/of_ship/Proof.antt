@@ -2,10 +2,10 @@
 use mathlib.Core.Path.{_≡_, ap, ap₂, _∙_}
 use borrow.Author.Needs.{needs}
 use Rattle.mark.specs.Others.{sheetAt}
-use Rattle.steps.specs.declared.hull.Hull.{Hull}
+use Rattle.hull.specs.declared.Hull.{Hull}
 use Rattle.steps.specs.Steps.{summerOf}
-use Rattle.steps.specs.Parts.{hullOf, summerOn}
-use Rattle.steps.proofs.Parts.{summer-parts}
+use Rattle.hull.specs.Parts.{hullOf, summerOn}
+use Rattle.hull.proofs.Parts.{summer-parts}
 use Rattle.marks.specs.Marks.{particularsOf, sheetFor}
 use Rattle.marks.proofs.Particulars.{fair-particulars}
 use Rattle.marks.proofs.Demand.{bounded}

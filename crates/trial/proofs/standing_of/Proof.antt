@@ -2,8 +2,8 @@
 use mathlib.Core.Path.{_≡_, ap}
 use lib.ListN.{length, length-map}
 use borrow.Author.Needs.{needs}
-use Rattle.steps.specs.declared.hull.Hull.{Hull}
-use Rattle.steps.specs.Parts.{hullOf}
+use Rattle.hull.specs.declared.Hull.{Hull}
+use Rattle.hull.specs.Parts.{hullOf}
 use Rattle.trial.specs.Standing.{standingOf}
 use Rattle.trial.proofs.Trial.{fair-standing}
 use Rattle.trial.proofs.standing_of.Statement.{statement}

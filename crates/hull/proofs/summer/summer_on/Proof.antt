@@ -1,0 +1,22 @@
+-- Each step is its own call's, and the sums are the definition's.
+use mathlib.Core.Path.{refl}
+use borrow.Author.Needs.{needs}
+use Rattle.hull.specs.Parts.{bowOn, summerOn}
+use Rattle.hull.proofs.summer.summer_on.Statement.{statement}
+use Rattle.hull.proofs.summer.summer_on.Tie as tie
+
+pub summer-on-spec : {M : Type 1} → statement M
+unfolding bowOn summerOn
+summer-on-spec =
+    tie.close
+    (tie.spec
+    (λ c κs. search needs)
+    (λ c κs. search needs)
+    (λ c κs. search needs)
+    (λ c κs. search needs)
+    (λ c κs. search needs)
+    (λ c.
+    let b = c .before in
+    let t = b .before in
+    let a = t .before in
+    rw (c .summer .ensures .0, a .added .ensures .0, t .taken .ensures, b .freeboard .ensures .0) refl))

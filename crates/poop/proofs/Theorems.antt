@@ -55,7 +55,7 @@ module _ (fits : ℕ → Bool) (L : ℕ) where
   of-given r (fitting k m e f) z = (m, e, f)
   of-given r (none f) z = absurd (omega arith)
 
-  of-none : (r : Reply) → Shortest fits L r → r .verdict .number ≡ 16 → (j : ℕ) → 100 * j ≤ L → fits j ≡ false
+  pub of-none : (r : Reply) → Shortest fits L r → r .verdict .number ≡ 16 → (j : ℕ) → 100 * j ≤ L → fits j ≡ false
   of-none r (fitting k m e f) z = absurd (omega arith)
   of-none r (none f) z = f
 

@@ -1,6 +1,7 @@
 -- Each step is its own call's, and the sums are the definition's.
-use mathlib.Core.Path.{refl}
+use mathlib.Core.Path.{_∙_}
 use borrow.Author.Needs.{needs}
+use Rattle.mark.specs.Summer.{summerMark}
 use Rattle.hull.specs.Parts.{bowOn, summerOn}
 use Rattle.hull.proofs.summer.summer_on.Statement.{statement}
 use Rattle.hull.proofs.summer.summer_on.Tie as tie
@@ -19,4 +20,5 @@ summer-on-spec =
     let b = c .before in
     let t = b .before in
     let a = t .before in
-    rw (c .summer .ensures .0, a .added .ensures .0, t .taken .ensures, b .freeboard .ensures .0) refl))
+    let s = a .before .before .before .before in
+    c .summer .ensures .0 ∙ (λ i. summerMark (s .args .h .basis .floor) (a .added .ensures .0 i) (t .taken .ensures i) (b .freeboard .ensures .0 i))))

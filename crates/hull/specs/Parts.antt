@@ -19,7 +19,7 @@ use Rattle.deck.specs.Deck.{effectiveOn}
 use Rattle.hull.specs.declared.Hull.{Hull}
 use Rattle.steps.specs.Steps.{typeB, basis}
 
--- 28's line with the floor, 31's addition, 38's mean, and 39's height without the forecastle
+-- what the type decides (28, 40), what depth adds (31), the mean of the sheer (38), and the bow height before the forecastle is taken (39)
 unfoldable pub hullOf : Ship → Hull
 hullOf x = record {
   b = typeB x;
@@ -54,7 +54,7 @@ bowOn h d = h .bow .above .0 - (h .bow .below .0 + forecastleTaken (h .length .0
 unfoldable pub summerOn : Hull → Deck → ℕ
 summerOn h d = summerMark (h .basis .floor) (addedOn h d) (takenOn ordinaryRow h d) (bowOn h d)
 
--- ---- numbers that leave room for what is worked with them
+-- ---- bounds by which no sum or product of the steps overflows
 pub record FairHull (h : Hull) : Type 0 where
   pub length-least : 24000 ≤ h .length .0
   pub length-most : h .length .0 ≤ 365000

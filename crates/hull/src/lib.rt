@@ -1,4 +1,4 @@
-// What no house changes: the line that the type starts from, and of each step the part that looks at the hull alone.
+// A ship without its houses. It is worked once, and a search over houses then works only what they change; summer.rt has the mark of a hull and a deck.
 ghost use mathlib.Core.Path.{_≡_};
 ghost use Prim.Native.Nat.{_≤_};
 ghost use Rattle.steps.specs.Basis.{basisOf};
@@ -21,7 +21,8 @@ pub struct Basis {
     pub floor: u64,
 }
 
-// 28's line with the floor, 31's addition, 38's mean, and 39's height without the forecastle. The block coefficient is the one that counts.
+// What the type decides (28, 40), what depth adds (31), the mean of the sheer (38), and the bow height asked for before the forecastle is taken (39).
+// The block coefficient is the one that counts (30).
 pub struct Hull {
     pub b: bool,
     pub length: Span,
@@ -49,7 +50,7 @@ fn basis_of(b: bool, l: Span) -> Basis
     Basis { line, floor: LEAST }
 }
 
-// A ship's hull.
+// The hull of a ship that the reader accepts.
 pub fn hull_of(x: Ship) -> Hull
     requires { ⌜ Sound x ⌝ }
     ensures { λ r. ⌜ r ≡ hullOf x ⌝ }

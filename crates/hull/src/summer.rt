@@ -17,7 +17,7 @@ use units::Effective;
 use units::Freeboard;
 use units::Span;
 
-// Regulation 37 by a row of percentages.
+// The houses' deduction (37) for an effective length `e`, by a row of percentages.
 fn deduction_by(row: Row, l: Span, e: Effective) -> Freeboard
     requires { ⌜ (24000 ≤ l .0) × (l .0 ≤ 365000) × (e .0 ≤ 1000 * l .0) ⌝ }
     ensures { λ r. ⌜ r .0 ≡ deduction (entries row) (l .0) (e .0) ⌝ }
@@ -29,7 +29,7 @@ fn deduction_by(row: Row, l: Span, e: Effective) -> Freeboard
     deduction::of_full(l, deduction::share(p, q, l, e))
 }
 
-// What is added: the line with 29 and 30, then 31, then 38 where sheer is lacking.
+// What is added: the line, made greater for short B ships (29) and fullness (30), then depth (31), then sheer where it is lacking (38).
 fn added(h: Hull, d: Deck, lacking: Freeboard) -> Freeboard
     requires { ⌜ FairHull h × (lacking .0 ≡ Sheer.addition (h .mean .deficiency .0) (h .length .0) (d .s .0)) × (lacking .0 ≤ 9000000) ⌝ }
     ensures { λ r. ⌜ r .0 ≡ addedOn h d ⌝ }
@@ -40,7 +40,7 @@ fn added(h: Hull, d: Deck, lacking: Freeboard) -> Freeboard
     units::sum(units::sum(full, h.deep), lacking)
 }
 
-// What is taken: 37 by a row of percentages, and 38 where sheer is in excess.
+// What is taken: the houses' deduction (37) by a row of percentages, and sheer where it is in excess (38).
 fn taken(row: Row, h: Hull, d: Deck, excess: Freeboard) -> Freeboard
     requires { ⌜ FairHull h × FairDeck (h .length .0) d × (excess .0 ≡ Sheer.deduction (h .mean .excess .0) (h .length .0) (d .s .0) (d .reach)) × (excess .0 ≤ 456250) ⌝ }
     ensures { λ r. ⌜ r .0 ≡ takenOn (entries row) h d ⌝ }

@@ -19,7 +19,7 @@ use Rattle.steps.specs.Steps.{Sound, summerOf}
 use Rattle.steps.proofs.Bound.{summer-bounded}
 use Rattle.marks.specs.Marks.{particularsOf, sheetFor, sheetIn, Bounded}
 
--- of an answer, whatever the call: the equation of its contract is enough
+-- an answer that meets the call's equation is within the bound as well
 pub bounded : (x : Ship) → Sound x → (r : Answer) → sheet r ≡ sheetFor x → Bounded r x
 unfolding sheetFor sheetAt sixMarks
 bounded x k (Given m) e = rw (given-marks (first (markLines (particularsOf x) (summerOf x))) (sixMarks (particularsOf x) (summerOf x)) m e .1) (summer-bounded x k)

@@ -1,4 +1,4 @@
--- What the other marks need of an accepted ship leaves room for what is worked with it.
+-- What the other marks need of an accepted ship is small enough that nothing worked from it overflows.
 use Prim.Native.Nat.{_≤_, _<_}
 use native.Mathlib.Omega.{arith}
 use Rattle.whole.proofs.Pick.{by-cases}

@@ -1,5 +1,6 @@
 -- Demand 2: the summer mark of every accepted ship is never below its exact value, and less than 1.1 mm above it.
--- What each rounding can cost is composed along the formula: 3.7 um and 4 um before sheer, 2 um by sheer, 13 um in the bow's; the mark has room for 100.
+-- What each rounding can cost adds up along the formula: 3.7 um up to depth, 4 um in the houses' deduction, 2 um in sheer; 13 um in the bow's freeboard.
+-- Before the last rounding, to whole mm, 100 um would do (`summer-holds`).
 use Prim.Native.Nat.{_*_, _-_, _≤_}
 use native.Mathlib.Omega.{arith}
 use lib.ListN.{length-take}

@@ -15,7 +15,7 @@ use Rattle.bow.specs.Bow.{exactBow}
 use Rattle.mark.specs.Summer.{exactSummer}
 use Rattle.steps.specs.Steps.{typeB, coveredS, forecastleHouse, coverReach, basis}
 
--- E as a fraction; S, the cover's reach, and the forecastle's l and height are whole
+-- E is a fraction here; S, the cover's reach, and the forecastle's length and height are whole numbers in the steps already
 unfoldable pub exactE : Ship → Frac
 exactE x = exactEffectiveLength (x .length .0) (housesOf x)
 

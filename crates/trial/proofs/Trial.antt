@@ -147,7 +147,7 @@ module _ (x : Ship) (s : Sound x) (few : x .n < 8) (eight : length (x .houses) â
   fair-for zero h r = fair-deck (x .length .0) (housesOf x) (s .good .houses)
   fair-for (suc k) h r = fair-with (suc k) (omega arith) h r
 
-  -- so what is worked once is fair
+  -- so what is worked once is within the bounds
   pub fair-standing : FairHull (hullOf x) â†’ Fair (standingOf x height wish)
   unfolding standingOf hullOf
   fair-standing h =
@@ -163,7 +163,7 @@ module _ (x : Ship) (s : Sound x) (few : x .n < 8) (eight : length (x .houses) â
         poop = fair-for;
       }
 
-  -- ---- so of what was worked once, whatever worked it
+  -- ---- the same of anything equal to it, as what the code worked
   module _ (q : Standing) (e : q â‰¡ standingOf x height wish) where
     pub length-stands : q .hull .length .0 â‰¡ x .length .0
     unfolding standingOf hullOf

@@ -39,7 +39,7 @@ markedOn q S = within (markLines (q .particulars) S) S (q .wish)
 unfoldable pub fitsOn : Standing → ℕ → Bool
 fitsOn q k = leb (100 * k) (q .room .0) && markedOn q (summerOn (q .hull) (deckFor q k))
 
--- numbers that leave room for what is worked with them, with a poop before the first house too
+-- bounds by which no sum or product of a trial overflows, with any poop that there is room for
 pub record Fair (q : Standing) : Type 0 where
   pub hull : FairHull (q .hull)
   pub deck : FairDeck (q .hull .length .0) (q .deck)

@@ -1,4 +1,4 @@
-// The trial of one length: what stays the same from length to length is worked once, and only the poop's part for each.
+// Whether a poop of one length fits. What is the same for every length is worked once, and for each length only what its poop changes.
 ghost use mathlib.Core.Path.{_≡_};
 ghost use Prim.Native.Nat.{_*_, _≤_, _<_};
 ghost use Rattle.steps.specs.Steps.{Sound};
@@ -36,7 +36,7 @@ fn room_of(x: Ship) -> Span
     units::between(ap, h.aft)
 }
 
-// All of that, for a ship and what is asked.
+// The same, worked for a ship, a height of poop and a wish.
 pub fn standing_of(x: Ship, height: Span, wish: u64) -> Standing
     requires { ⌜ Sound x × (x .n < 8) × (1 ≤ height .0) × (height .0 ≤ 8191) ⌝ }
     ensures { λ r. ⌜ r ≡ standingOf x (height .0) wish ⌝ }

@@ -1,4 +1,4 @@
--- Each part is its own call's.
+-- Each field is what the contract of its own call says.
 use lib.Dec.{eqb}
 use native.Mathlib.Omega.{arith}
 use borrow.Author.Needs.{needs}

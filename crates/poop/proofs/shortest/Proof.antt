@@ -1,6 +1,6 @@
--- What is left of the search, from the length at hand on, gives the whole search's answer.
+-- The loop keeps this: the search from k on, over the lengths that are left, gives the answer of the whole search.
 use Prim.Native.Nat.{ℕ, _+_, _*_, _-_, _≤_}
-use mathlib.Core.Path.{_≡_, sym, _∙_}
+use mathlib.Core.Path.{_≡_, sym, ap, _∙_}
 use lib.ListN.{length, length-map}
 use native.Mathlib.Nat.{sub-zero}
 use native.Mathlib.Omega.{arith}
@@ -46,7 +46,7 @@ shortest-spec =
     μ-loop
     (λ c κs. c .pre)
     (λ c κs. search needs)
-    (λ c. (omega arith, rw sub-zero))
+    (λ c. (omega arith, ap (λ (n : ℕ). shortestFrom (fitsOn (c .before .standing-of .result)) n 0) (sub-zero (c .dm-within .result + 1))))
     (λ c κs.
     let d = c .before .before in
     let a = d .before in

@@ -1,4 +1,4 @@
--- Each part is its own call's.
+-- Each field is what the contract of its own call says.
 use mathlib.Core.Path.{_≡_, ap}
 use lib.ListN.{length, length-map}
 use borrow.Author.Needs.{needs}

@@ -1,4 +1,4 @@
--- The two neighbours that the tenth names give the row's own share.
+-- E/L lies between two entries of the row, and the share worked from these two is the row's.
 use Rattle.tables.proofs.Percentages.{each-row}
 use Rattle.corrections.specs.Deduction37.{deduction}
 use Rattle.corrections.proofs.Deduction37.{neighbours, share-read}

@@ -1,4 +1,4 @@
--- Each step is its own call's, and the sums are the definition's.
+-- Each step is what the contract of its own call says; put into the definition they are the mark.
 use mathlib.Core.Path.{_∙_}
 use borrow.Author.Needs.{needs}
 use Rattle.mark.specs.Summer.{summerMark}

@@ -24,9 +24,9 @@ use Rattle.mark.specs.declared.Particulars.{Particulars}
 use Rattle.mark.specs.declared.Answer.the-variants.{Given}
 use Rattle.mark.specs.Others.{Sheet, tropical, winter, atlantic, draughtAt, sixMarks, markLines, sheet}
 use Rattle.mark.proofs.OneToOne.{given-marks}
-use Rattle.marks.specs.Steps.{summerOf}
+use Rattle.steps.specs.Steps.{summerOf}
 use Rattle.marks.specs.Marks.{particularsOf, sheetIn}
-use Rattle.marks.proofs.Parts.{fair-particulars}
+use Rattle.marks.proofs.Particulars.{fair-particulars}
 use Rattle.marks.proofs.Demand.{sound}
 use Rattle.face.specs.Flat.{Near, NearHouses, NearSheer}
 use Rattle.face.specs.Answers.{Small}

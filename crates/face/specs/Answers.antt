@@ -11,7 +11,7 @@ use Rattle.record.specs.Reading.{Reading}
 use Rattle.mark.specs.declared.Marks.{Marks}
 use Rattle.mark.specs.Summer.{Holds}
 use Rattle.mark.specs.Others.{Sheet}
-use Rattle.marks.specs.Exact.{exactSummerOf}
+use Rattle.steps.specs.Exact.{exactSummerOf}
 use Rattle.poop.specs.Question.{Reply}
 use Rattle.face.specs.declared.MarksAnswer.{MarksAnswer}
 use Rattle.face.specs.declared.PoopAnswer.{PoopAnswer}

@@ -25,35 +25,35 @@ use Rattle.sheer.specs.Sheer as Sheer
 use Rattle.bow.specs.Bow as Bow
 use Rattle.mark.specs.Summer as Summer
 use Rattle.mark.specs.Others as Others
-use Rattle.marks.specs.Basis as Basis
-use Rattle.marks.specs.Steps as Steps
+use Rattle.steps.specs.Basis as Basis
+use Rattle.steps.specs.Steps as Steps
 use Rattle.marks.specs.Marks as Marks
-use Rattle.poop.specs.Poop as Poop
+use Rattle.trial.specs.Poop as Poop
 use Rattle.poop.specs.Question as Question
 use Rattle.figures.specs.Figures.{k1, k2, bowHeight, marksRow, askedRow, house, figures, agree, allAgree}
 
 -- what a figure computes through
-unfoldable Tools : Type 0
+unfoldable pub Tools : Type 0
 unfolding Pick.pick Divide.ceilDiv Row.gain Row.height Table28.table28A Table28.table28B Tabular.tabular Table37.ordinaryRow Refusals.first
 Tools = Unit {0}
 
-unfoldable Reader : Type 0
+unfoldable pub Reader : Type 0
 unfolding Fields.pack Fields.piece Fields.unpack Fields.number Layout.houseIn Layout.spareIn Layout.headIn Layout.placesIn Layout.shipIn Reading.sparesIn Checks.firstFrom Checks.fieldOut Checks.breaks Checks.breachAt Checks.firstBreach
 Reader = Unit {0}
 
-unfoldable Houses : Type 0
+unfoldable pub Houses : Type 0
 unfolding Length.partOf Length.total Length.coveredLength Height.ordinaryHeight Height.raisedHeight Height.standardHeight Effective.limitedLength Effective.exactEffective Effective.effectiveOf Effective.effectiveLength Forecastle.houseThat Forecastle.isForecastle Forecastle.forecastleOf Cover.isAmidships Cover.reachOf Cover.reach
 Houses = Unit {0}
 
-unfoldable Corrections : Type 0
+unfoldable pub Corrections : Type 0
 unfolding Short29.exactShortB Short29.shortB Fullness30.exactFullness Fullness30.fullness Depth31.rate Depth31.exactDepthAddition Depth31.depthAddition Deduction37.exactFull Deduction37.full Deduction37.exactShare Deduction37.share Deduction37.ofFull Deduction37.deduction Deduction37.lacksForecastle Gathered.added Gathered.deducted Sheer.afterSum Sheer.forwardSum Sheer.unit Sheer.standardAfter Sheer.standardForward Sheer.above Sheer.lacks Sheer.afterCounts Sheer.forwardShare Sheer.meanAbove Sheer.meanLacks Sheer.exactExcess Sheer.exactDeficiency Sheer.excess Sheer.deficiency Sheer.exactAddition Sheer.exactDeduction Sheer.addition Sheer.deduction Sheer.added Sheer.deducted Bow.hundreds Bow.exactB1 Bow.rises Bow.falls Bow.exactB2Above Bow.exactB2Below Bow.b2Above Bow.b2Below Bow.higher Bow.lower Bow.sheerTaken Bow.forecastleTaken Bow.bowFreeboard
 Corrections = Unit {0}
 
-unfoldable Marking : Type 0
+unfoldable pub Marking : Type 0
 unfolding Summer.exactSummer Summer.summerMark Others.tropical Others.winter Others.atlantic Others.allowance Others.sixMarks Others.sheetAt Basis.basisOf Steps.coveredS Steps.effectiveE Steps.forecastleHouse Steps.coverReach Steps.addedTo Steps.takenFrom Steps.bowOf Steps.summerOf Marks.particularsOf Marks.sheetIn
 Marking = Unit {0}
 
-unfoldable Asking : Type 0
+unfoldable pub Asking : Type 0
 unfolding Poop.poopHouse Poop.withFirst Poop.withPoop Poop.within Poop.marksWithin Poop.fitsAt Question.shortestFrom Question.shortestFor Question.replyIn
 Asking = Unit {0}
 

@@ -24,9 +24,9 @@ use Rattle.corrections.specs.Gathered.{deducted}
 use Rattle.sheer.specs.Sheer as Sheer
 use Rattle.bow.specs.Bow.{higher, lower}
 use Rattle.mark.specs.Others.{Sheet}
-use Rattle.marks.specs.Steps.{typeB, effectiveE, forecastleHouse, addedTo, takenFrom, summerOf}
+use Rattle.steps.specs.Steps.{typeB, effectiveE, forecastleHouse, addedTo, takenFrom, summerOf}
 use Rattle.marks.specs.Marks.{sheetIn}
-use Rattle.poop.specs.Poop.{withPoop}
+use Rattle.trial.specs.Poop.{withPoop}
 use Rattle.poop.specs.Question.{Reply, replyIn}
 
 pub record Row : Type 0 where

@@ -8,7 +8,7 @@ use Rattle.ship.specs.Refusals.{accepted}
 use Rattle.record.specs.Reading.{readingIn}
 use Rattle.houses.specs.Covered.{coveredAt, count}
 use Rattle.houses.proofs.Counted.{covers}
-use Rattle.marks.specs.Steps.{coveredS}
+use Rattle.steps.specs.Steps.{coveredS}
 use Rattle.marks.proofs.Sheet.{sound-read}
 
 pub covered-read : (s : List ℕ) (x : Ship) → readingIn s ≡ record { verdict = accepted; ship = x }

@@ -16,10 +16,10 @@ use Rattle.ship.proofs.Lines.{AllPass, all-pass-split, first-skip}
 use Rattle.record.specs.Layout.{shipIn}
 use Rattle.record.specs.Reading.{frameLines, readingIn}
 use Rattle.record.proofs.Framed.{passes-all, ship-is}
-use Rattle.marks.specs.Steps.{summerOf}
+use Rattle.steps.specs.Steps.{summerOf}
 use Rattle.mark.specs.Others.{markLines}
 use Rattle.marks.specs.Marks.{particularsOf}
-use Rattle.poop.specs.Poop.{poopHouse, withFirst, withPoop, within, marksWithin, fitsAt}
+use Rattle.trial.specs.Poop.{poopHouse, withFirst, withPoop, within, marksWithin, fitsAt}
 use Rattle.poop.specs.Question.{Reply, refusing, noLength, Shortest, fitting, none, askLines, replyOf, shortestFor, replyIn}
 use Rattle.poop.proofs.Search.{is-shortest, one-shortest}
 
@@ -55,7 +55,7 @@ module _ (fits : ℕ → Bool) (L : ℕ) where
   of-given r (fitting k m e f) z = (m, e, f)
   of-given r (none f) z = absurd (omega arith)
 
-  of-none : (r : Reply) → Shortest fits L r → r .verdict .number ≡ 16 → (j : ℕ) → 100 * j ≤ L → fits j ≡ false
+  pub of-none : (r : Reply) → Shortest fits L r → r .verdict .number ≡ 16 → (j : ℕ) → 100 * j ≤ L → fits j ≡ false
   of-none r (fitting k m e f) z = absurd (omega arith)
   of-none r (none f) z = f
 

@@ -14,8 +14,8 @@ use Rattle.corrections.specs.Gathered as Before
 use Rattle.sheer.specs.Sheer as Sheer
 use Rattle.bow.specs.Bow as Bow
 use Rattle.mark.specs.Summer.{exactSummer}
-use Rattle.marks.specs.Steps.{Sound, typeB, coveredS, forecastleHouse, coverReach, basis}
-use Rattle.marks.specs.Exact.{exactE, exactAddedTo, exactTakenFrom, exactBowOf, exactSummerOf}
+use Rattle.steps.specs.Steps.{Sound, typeB, coveredS, forecastleHouse, coverReach, basis}
+use Rattle.steps.specs.Exact.{exactE, exactAddedTo, exactTakenFrom, exactBowOf, exactSummerOf}
 use Rattle.signed.specs.Signed.{_≈s_, plain, _-s_}
 use Rattle.signed.specs.Summer.{corrected, bowOf, signedSummerOf}
 use Rattle.signed.proofs.Laws.{refl≈s, trans≈s, +s-same, two-differences, held}

@@ -7,8 +7,8 @@ use Rattle.houses.specs.Length.{partOf}
 use Rattle.houses.specs.Effective.{exactEffective}
 use Rattle.corrections.specs.Fullness30.{counted}
 use Rattle.corrections.specs.Gathered.{exactAdded, exactDeducted}
-use Rattle.marks.specs.Steps.{typeB, coveredS, forecastleHouse, coverReach, basis}
-use Rattle.marks.specs.Exact.{exactE}
+use Rattle.steps.specs.Steps.{typeB, coveredS, forecastleHouse, coverReach, basis}
+use Rattle.steps.specs.Exact.{exactE}
 use Rattle.signed.specs.Signed.{Signed, plain, _+s_, _-s_, _*s_, maxs}
 use Rattle.signed.specs.Formula.{mean, bySheer, bow}
 

@@ -20,15 +20,15 @@ use Rattle.ship.specs.Checks.{fieldLines, houseLines, shipLines}
 use Rattle.ship.specs.Good.{Good}
 use Rattle.ship.proofs.Lines.{first-passed}
 use Rattle.ship.proofs.Accepted.{good}
 use Rattle.record.specs.declared.Head.{Head}
 use Rattle.record.specs.Layout.{recordLength, turn, headWidths, headFields, headOf, headBytes, headIn, shipHead, shipOf, placesIn, shipIn, recordBytes, housesBytes, housesIn, houseAt, spareIn}
 use Rattle.record.specs.Reading.{sparesIn, readingIn}
 use Rattle.record.specs.Writing.{writingOf}
 use Rattle.record.proofs.Complement.{turn-turn}
 use Rattle.record.proofs.Parts.{length-headBytes, length-housesBytes, length-housesIn, head-within}
 use Rattle.record.proofs.Framed.{passes-all, ship-is, Framed, frame-passed, frame-passes, reading-framed}
 use Rattle.record.proofs.Written.{head-fits, writing-accepted}
-use Rattle.roundtrip.proofs.House.{Held, AllHeld, houses-back, houses-there, house-at, spare-back}
+use Rattle.record.proofs.House.{Held, AllHeld, houses-back, houses-there, house-at, spare-back}
 
 -- what the types of a ship's arrays say
 pub record Shaped (x : Ship) : Type 0 where
@@ -149,7 +149,7 @@ module _ (x : Ship) (shaped : Shaped x) (k : x .kind ≤ 1) (m : x .n ≤ 8) (pa
   unfolding shipIn
   ship-back = ap (λ (h : Head). shipOf h (placesIn (h .count) (recordBytes x))) head-is ∙ ap (shipOf (shipHead x)) places-back
 
-  length-record : length (recordBytes x) ≡ recordLength (x .n)
+  pub length-record : length (recordBytes x) ≡ recordLength (x .n)
   unfolding recordBytes
   length-record =
       omega (arith, length-append (headBytes (shipHead x)) (housesBytes (housesOf x)), length-headBytes (shipHead x), length-housesBytes (housesOf x), count-of)

@@ -61,7 +61,7 @@ pub fn read(s: &[u8]) -> Head
 }
 
 // Checks 2 to 5 on the head of a record of so many bytes.
-fn check_head(h: Head, bytes: usize) -> Verdict
+pub fn check_head(h: Head, bytes: usize) -> Verdict
     ensures { λ v. ⌜ paper v ≡ first (headLines h bytes) ⌝ }
 {
     if h.version != record::VERSION {

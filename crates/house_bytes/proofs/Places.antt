@@ -9,9 +9,14 @@ use native.Mathlib.Omega.{arith}
 use Rattle.bits.specs.Fields.{number, unpack, piece}
 use Rattle.ship.specs.declared.House.{House}
 use Rattle.ship.specs.Vessel.{noHouse}
-use Rattle.record.specs.Layout.{houseWidths, houseIn, spareIn, houseAt, housesIn}
+use Rattle.record.specs.Layout.{houseWidths, houseOf, houseIn, spareIn, houseAt, housesIn}
 use Rattle.record.specs.Reading.{sparesIn}
 use Rattle.record.proofs.Parts.{length-housesIn}
+
+-- a house of zero bits is none
+pub zero-bits : houseOf (unpack houseWidths 0) ≡ noHouse
+unfolding unpack piece
+zero-bits = refl
 
 housesIn-snoc : (n : ℕ) (t : List ℕ) → housesIn (suc n) t ≡ housesIn n t ++ (houseIn (take 8 (drop (8 * n) t)) ∷ [])
 housesIn-snoc zero t = refl

@@ -39,7 +39,8 @@ pub fn houses_in(s: &[u8], n: usize) -> Houses
     requires { ⌜ (n ≤ 8) × (recordLength n ≤ length (now s)) ⌝ }
     ensures { λ r. ⌜ (r .places ≡ placesIn n (now (s .entry))) × (r .spare ≡ sparesIn (now (s .entry)) n) × (r .spare ≤ 1024) ⌝ }
 {
-    let none = ship::no_house();
+    // Places beyond n read as zero.
+    let none = house_of(0);
     let mut places = [none; 8];
     let mut spare = 0;
     let mut k = 0;
@@ -84,10 +85,10 @@ pub fn put_houses(buf: &mut [u8], houses: [House; 8], n: usize)
 {
     let mut k = 0;
     while k < n {
-        let a = HEAD_BYTES + HOUSE_BYTES * k;
-        let e = a + HOUSE_BYTES;
+        let from = HEAD_BYTES + HOUSE_BYTES * k;
+        let to = from + HOUSE_BYTES;
         let h = houses[k];
-        put_house(&mut buf[a..e], h);
+        put_house(&mut buf[from..to], h);
         k += 1;
     }
 }

@@ -68,7 +68,13 @@ fn judge(x: Ship) -> Answer
             verdict: Verdict::Accepted,
             ship: x,
         },
-        Verdict::Refused(r) => refuse(r),
+        Verdict::Refused(r) => {
+            let none = ship::no_ship();
+            Answer {
+                verdict: Verdict::Refused(r),
+                ship: none,
+            }
+        }
     }
 }
 

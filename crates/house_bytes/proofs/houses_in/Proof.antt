@@ -9,7 +9,7 @@ use borrow.Author.Needs.{needs}
 use Rattle.ship.specs.Vessel.{noHouse}
 use Rattle.record.specs.Layout.{housesIn, placesIn, houseIn}
 use Rattle.record.specs.Reading.{sparesIn}
-use Rattle.house_bytes.proofs.Places.{places-more, spares-more}
+use Rattle.house_bytes.proofs.Places.{zero-bits, places-more, spares-more}
 use Rattle.house_bytes.proofs.houses_in.Statement.{statement}
 use Rattle.house_bytes.proofs.houses_in.Tie as tie
 
@@ -28,7 +28,7 @@ houses-in-spec =
     Inv-loop
     μ-loop
     (λ c κs. search needs)
-    (λ c. (search needs, rw (c .no-house .ensures) refl, refl, search needs))
+    (λ c. (search needs, (λ i. replicate 8 ((c .house-of .ensures ∙ zero-bits) i)), refl, search needs))
     (λ c. search needs)
     (λ c. search needs)
     (λ c. search needs)
@@ -49,7 +49,7 @@ houses-in-spec =
     let s = now (l .before .before .before .args .s) in
     let n : 27 + 8 * k + 8 - (27 + 8 * k) ≡ 8 = omega arith in (
       omega arith,
-      rw (c .house-of .ensures, w .word .ensures, n, l .loop .inv .1) (places-more s k (omega arith)),
+      rw (c .house-of2 .ensures, w .word .ensures, n, l .loop .inv .1) (places-more s k (omega arith)),
       rw (w .word .ensures, n, l .loop .inv .2) (spares-more s k),
       omega arith,
     ))

@@ -39,12 +39,11 @@ put-houses-spec =
     (λ c κs.
     let l = c .before .before .before in
     let k = l .loop .k in
-    let n : 27 + 8 * k + 8 - (27 + 8 * k) ≡ 8 = omega arith in
     let h : k < l .before .before .args .n = omega arith in
     let a = l .before .before .args in
     let m : length (a .t2) ≡ 8 = search needs in
     let t : length (take (a .n) (a .t2)) ≡ a .n = length-take-le (a .n) (a .t2) (omega arith) in (
-      rw (n, length-take 8 (drop (27 + 8 * k) (l .loop .buf)), length-drop (27 + 8 * k) (l .loop .buf)) (omega arith),
+      simp (length-take, length-drop) (omega arith),
       rw (getD-take (a .n) (a .t2) k _ h) at (l .before .before .pre .1 .each k (omega arith)),
     ))
     (λ c. search needs)
@@ -56,7 +55,8 @@ put-houses-spec =
     let k = l .loop .k in
     let n : 27 + 8 * k + 8 - (27 + 8 * k) ≡ 8 = omega arith in
     let m : length (a .t2) ≡ 8 = search needs in
-    (omega arith, rw (n, w .put-house .ensures, l .loop .inv .1) (houses-more (now (a .buf)) (a .t2) k (omega arith) (omega arith)), search needs))
+    let stored : _ ≡ _ = λ i. let b = l .loop .inv .1 i in take (27 + 8 * k) b ++ (w .put-house .ensures i ++ drop (n i) (drop (27 + 8 * k) b)) in
+    (omega arith, stored ∙ houses-more (now (a .buf)) (a .t2) k (omega arith) (omega arith), search needs))
     (λ c. search needs)
     (λ c.
     let l = c .before in

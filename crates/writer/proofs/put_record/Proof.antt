@@ -27,7 +27,7 @@ put-record-spec =
     (length-take-le 27 (now (s .args .buf)) (omega arith), subst (λ (h : Head). Fit headWidths (headFields h)) (sym (d .head-of .ensures)) (s .pre .1 .0)))
     (λ c κs.
     let s = c .before .before .before .before .before .before .before .before in
-    ((s .pre .0 .0, omega arith), s .pre .1 .1))
+    ((omega arith, omega arith), s .pre .1 .1))
     (λ c. search needs)
     (λ c.
     let w = c .before .before in

@@ -12,7 +12,7 @@ use Rattle.ship.proofs.Lines.{all-pass, first-passed}
 use Rattle.record.specs.Layout.{shipIn}
 use Rattle.record.specs.Reading.{frameLines, readingIn}
 use Rattle.record.specs.Writing.{writingOf, written}
-use Rattle.roundtrip.proofs.Theorems.{write-what-was-read}
+use Rattle.record.proofs.Theorems.{write-what-was-read}
 use Rattle.marks.specs.Marks.{sheetIn}
 use Rattle.poop.specs.Question.{replyIn}
 use Rattle.face.specs.declared.flat.FlatShip.{FlatShip}

@@ -26,6 +26,16 @@ houseWidths = 1 ∷ 1 ∷ 21 ∷ 21 ∷ 13 ∷ 7 ∷ []
 abbrev pub recordLength : ℕ → ℕ
 recordLength n = 27 + 8 * n
 
+-- the only version; the last of the types, A is 0 and B is 1; the most houses
+abbrev pub onlyVersion : ℕ
+onlyVersion = 1
+
+abbrev pub lastType : ℕ
+lastType = 1
+
+abbrev pub mostHouses : ℕ
+mostHouses = 8
+
 -- two's complement as a number counted from the lowest: the two halves of the range change places; and back
 abbrev pub turn : ℕ → ℕ → ℕ
 turn half u = (u % (2 * half) + half) % (2 * half)
@@ -122,7 +132,7 @@ headIn s = headOf (unpack headWidths (number (take 27 s)))
 -- the head of a ship's record
 abbrev pub shipHead : Ship → Head
 shipHead x = record {
-  version = 1;
+  version = onlyVersion;
   kind = x .kind;
   count = x .n;
   spare = 0;

@@ -18,8 +18,12 @@ pub const HEAD_BYTES: usize = 27;
 
 pub const HOUSE_BYTES: usize = 8;
 
-// The only version.
+// The only version; the last of the types, A is 0 and B is 1; the most houses.
 pub const VERSION: u64 = 1;
+
+pub const LAST_TYPE: u64 = 1;
+
+pub const MOST_HOUSES: u64 = 8;
 
 // What the head says, in the record's order.
 pub struct Head {

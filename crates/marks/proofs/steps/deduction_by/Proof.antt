@@ -1,7 +1,7 @@
 -- The two neighbours that the tenth names give the row's own share.
 use Rattle.tables.proofs.Percentages.{each-row}
-use Rattle.corrections.specs.Deduction37.{deduction}
-use Rattle.corrections.proofs.Deduction37.{neighbours, share-read}
+use Rattle.deduction.specs.Deduction37.{deduction}
+use Rattle.deduction.proofs.Deduction37.{neighbours, share-read}
 use native.Mathlib.Omega.{arith}
 use borrow.Author.Needs.{needs}
 use Rattle.marks.proofs.steps.deduction_by.Statement.{statement}

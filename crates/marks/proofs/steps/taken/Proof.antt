@@ -1,6 +1,6 @@
 use mathlib.Core.Path.{refl}
 use borrow.Author.Needs.{needs}
-use Rattle.corrections.specs.Gathered.{deducted}
+use Rattle.deduction.specs.Deduction37.{deducted}
 use Rattle.marks.specs.Parts.{takenOn}
 use Rattle.marks.proofs.steps.taken.Statement.{statement}
 use Rattle.marks.proofs.steps.taken.Tie as tie

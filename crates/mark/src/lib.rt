@@ -110,7 +110,8 @@ pub fn follow(p: Particulars, s: u64) -> Answer
     let depth = p.depth;
     let d = units::draught(depth, s);
     let fresh = allowance_of(p.displacement, p.immersion, d);
-    if units::is_at_keel(depth, s) {
+    let at_keel = units::is_at_keel(depth, s);
+    if at_keel {
         return Answer::Refused(Refusal::NoDraught);
     }
     if d < fresh {

@@ -58,7 +58,7 @@ pub fn summer_on(h: Hull, d: Deck) -> u64
 {
     let l = h.length;
     let forecastle = d.forecastle;
-    let c = sheer::correct(h.mean, l, d.s, d.reach);
+    let c = sheer_correction::correct(h.mean, l, d.s, d.reach);
     let gained = added(h, d, c.added);
     let lost = taken(Row::Ordinary, h, d, c.deducted);
     let bow = bow::freeboard(h.bow, l, forecastle.part, forecastle.height);

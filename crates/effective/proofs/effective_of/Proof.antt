@@ -2,11 +2,11 @@ use mathlib.Core.Path.{_≡_, _∙_}
 use native.Mathlib.Omega.{arith}
 use borrow.Author.Needs.{needs}
 use Rattle.whole.proofs.Divide.{mul-most, mul-fits}
 use Rattle.houses.specs.Effective.{effectiveOf}
 use Rattle.houses.proofs.Limits.{part-most, effective-most}
 use Rattle.houses.proofs.Rounded.{effective-quotient}
-use Rattle.houses.proofs.effective_of.Statement.{statement}
-use Rattle.houses.proofs.effective_of.Tie as tie
+use Rattle.effective.proofs.effective_of.Statement.{statement}
+use Rattle.effective.proofs.effective_of.Tie as tie
 
 pub effective-of-spec : {M : Type 1} → statement M
 effective-of-spec =

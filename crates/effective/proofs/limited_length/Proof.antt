@@ -2,9 +2,9 @@ use mathlib.Core.Path.{refl}
 use native.Mathlib.Omega.{arith}
 use borrow.Author.Needs.{needs}
 use Rattle.whole.specs.Pick.{pick}
 use Rattle.houses.specs.Effective.{limitedLength}
-use Rattle.houses.proofs.limited_length.Statement.{statement}
-use Rattle.houses.proofs.limited_length.Tie as tie
+use Rattle.effective.proofs.limited_length.Statement.{statement}
+use Rattle.effective.proofs.limited_length.Tie as tie
 
 pub limited-length-spec : {M : Type 1} → statement M
 unfolding pick limitedLength

@@ -2,9 +2,9 @@ use native.Mathlib.Omega.{arith}
 use borrow.Author.Needs.{needs}
 use borrow.Author.Tests.{lt-ltb, le-ltb, le-leb, lt-leb}
 use Rattle.whole.specs.Pick.{pick}
 use Rattle.houses.specs.Height.{ordinaryHeight}
-use Rattle.houses.proofs.ordinary_height.Statement.{statement}
-use Rattle.houses.proofs.ordinary_height.Tie as tie
+use Rattle.effective.proofs.ordinary_height.Statement.{statement}
+use Rattle.effective.proofs.ordinary_height.Tie as tie
 
 pub ordinary-height-spec : {M : Type 1} → statement M
 unfolding pick ordinaryHeight

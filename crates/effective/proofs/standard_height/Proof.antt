@@ -1,8 +1,8 @@
 use borrow.Author.Needs.{needs}
 use Rattle.whole.specs.Pick.{pick}
 use Rattle.houses.specs.Height.{standardHeight}
-use Rattle.houses.proofs.standard_height.Statement.{statement}
-use Rattle.houses.proofs.standard_height.Tie as tie
+use Rattle.effective.proofs.standard_height.Statement.{statement}
+use Rattle.effective.proofs.standard_height.Tie as tie
 
 pub standard-height-spec : {M : Type 1} → statement M
 unfolding pick standardHeight

@@ -3,9 +3,9 @@ use Prim.Native.Nat.{_*_, _-_}
 use native.Mathlib.Omega.{arith}
 use borrow.Author.Needs.{needs}
 use Rattle.whole.proofs.Divide.{ceil-most, room, mul-most}
 use Rattle.sheer.proofs.Rounded.{addition-quotient}
-use Rattle.sheer.proofs.add.Statement.{statement}
-use Rattle.sheer.proofs.add.Tie as tie
+use Rattle.sheer_correction.proofs.add.Statement.{statement}
+use Rattle.sheer_correction.proofs.add.Tie as tie
 
 pub add-spec : {M : Type 1} → statement M
 add-spec =

@@ -1,6 +1,6 @@
 use borrow.Author.Needs.{needs}
-use Rattle.sheer.proofs.correct.Statement.{statement}
-use Rattle.sheer.proofs.correct.Tie as tie
+use Rattle.sheer_correction.proofs.correct.Statement.{statement}
+use Rattle.sheer_correction.proofs.correct.Tie as tie
 
 pub correct-spec : {M : Type 1} → statement M
 correct-spec =

@@ -2,9 +2,9 @@ use native.Mathlib.Omega.{arith}
 use borrow.Author.Needs.{needs}
 use borrow.Author.Tests.{lt-ltb, le-ltb, le-leb, lt-leb}
 use Rattle.whole.specs.Pick.{pick}
 use Rattle.houses.specs.Height.{raisedHeight}
-use Rattle.houses.proofs.raised_height.Statement.{statement}
-use Rattle.houses.proofs.raised_height.Tie as tie
+use Rattle.effective.proofs.raised_height.Statement.{statement}
+use Rattle.effective.proofs.raised_height.Tie as tie
 
 pub raised-height-spec : {M : Type 1} → statement M
 unfolding pick raisedHeight

@@ -2,9 +2,9 @@ use Prim.Native.Nat.{_*_, _-_}
 use native.Mathlib.Omega.{arith}
 use borrow.Author.Needs.{needs}
 use Rattle.whole.proofs.Divide.{mul-most, mul-fits}
 use Rattle.sheer.proofs.Rounded.{deduction-quotient}
-use Rattle.sheer.proofs.deduct.Statement.{statement}
-use Rattle.sheer.proofs.deduct.Tie as tie
+use Rattle.sheer_correction.proofs.deduct.Statement.{statement}
+use Rattle.sheer_correction.proofs.deduct.Tie as tie
 
 pub deduct-spec : {M : Type 1} → statement M
 deduct-spec =

@@ -19,7 +19,7 @@ use Rattle.houses.specs.Cover as Cover
 use Rattle.corrections.specs.Short29 as Short29
 use Rattle.corrections.specs.Fullness30 as Fullness30
 use Rattle.corrections.specs.Depth31 as Depth31
-use Rattle.corrections.specs.Deduction37 as Deduction37
+use Rattle.deduction.specs.Deduction37 as Deduction37
 use Rattle.corrections.specs.Gathered as Gathered
 use Rattle.sheer.specs.Sheer as Sheer
 use Rattle.bow.specs.Bow as Bow
@@ -46,7 +46,7 @@ unfolding Length.partOf Length.total Length.coveredLength Height.ordinaryHeight 
 Houses = Unit {0}
 
 unfoldable pub Corrections : Type 0
-unfolding Short29.exactShortB Short29.shortB Fullness30.exactFullness Fullness30.fullness Depth31.rate Depth31.exactDepthAddition Depth31.depthAddition Deduction37.exactFull Deduction37.full Deduction37.exactShare Deduction37.share Deduction37.ofFull Deduction37.deduction Deduction37.lacksForecastle Gathered.added Gathered.deducted Sheer.afterSum Sheer.forwardSum Sheer.unit Sheer.standardAfter Sheer.standardForward Sheer.above Sheer.lacks Sheer.afterCounts Sheer.forwardShare Sheer.meanAbove Sheer.meanLacks Sheer.exactExcess Sheer.exactDeficiency Sheer.excess Sheer.deficiency Sheer.exactAddition Sheer.exactDeduction Sheer.addition Sheer.deduction Sheer.added Sheer.deducted Bow.hundreds Bow.exactB1 Bow.rises Bow.falls Bow.exactB2Above Bow.exactB2Below Bow.b2Above Bow.b2Below Bow.higher Bow.lower Bow.sheerTaken Bow.forecastleTaken Bow.bowFreeboard
+unfolding Short29.exactShortB Short29.shortB Fullness30.exactFullness Fullness30.fullness Depth31.rate Depth31.exactDepthAddition Depth31.depthAddition Deduction37.exactFull Deduction37.full Deduction37.exactShare Deduction37.share Deduction37.ofFull Deduction37.deduction Deduction37.lacksForecastle Gathered.added Deduction37.deducted Sheer.afterSum Sheer.forwardSum Sheer.unit Sheer.standardAfter Sheer.standardForward Sheer.above Sheer.lacks Sheer.afterCounts Sheer.forwardShare Sheer.meanAbove Sheer.meanLacks Sheer.exactExcess Sheer.exactDeficiency Sheer.excess Sheer.deficiency Sheer.exactAddition Sheer.exactDeduction Sheer.addition Sheer.deduction Sheer.added Sheer.deducted Bow.hundreds Bow.exactB1 Bow.rises Bow.falls Bow.exactB2Above Bow.exactB2Below Bow.b2Above Bow.b2Below Bow.higher Bow.lower Bow.sheerTaken Bow.forecastleTaken Bow.bowFreeboard
 Corrections = Unit {0}
 
 unfoldable pub Marking : Type 0

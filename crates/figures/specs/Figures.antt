@@ -20,7 +20,7 @@ use Rattle.houses.specs.Effective.{exactEffective, effectiveOf}
 use Rattle.houses.specs.Cover.{reach}
 use Rattle.corrections.specs.Fullness30.{counted}
 use Rattle.corrections.specs.Depth31.{depthAddition}
-use Rattle.corrections.specs.Gathered.{deducted}
+use Rattle.deduction.specs.Deduction37.{deducted}
 use Rattle.sheer.specs.Sheer as Sheer
 use Rattle.bow.specs.Bow.{higher, lower}
 use Rattle.mark.specs.Others.{Sheet}

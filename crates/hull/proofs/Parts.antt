@@ -13,9 +13,9 @@ use Rattle.houses.specs.Length.{partOf}
 use Rattle.houses.specs.Effective.{exactEffective, effectiveOf}
 use Rattle.houses.specs.Forecastle.{forecastleOf}
 use Rattle.corrections.specs.Fullness30.{counted}
-use Rattle.corrections.specs.Deduction37.{deduction}
+use Rattle.deduction.specs.Deduction37.{deduction, deducted}
 use Rattle.corrections.specs.Gathered as Before
-use Rattle.corrections.proofs.Deduction37.{lacks-rounded}
+use Rattle.deduction.proofs.Deduction37.{lacks-rounded}
 use Rattle.sheer.specs.Sheer as Sheer
 use Rattle.bow.specs.Bow.{higher, lower, sheerTaken, forecastleTaken, bowFreeboard}
 use Rattle.mark.specs.Summer.{summerMark}
@@ -25,7 +25,7 @@ use Rattle.hull.specs.Parts.{hullOf, addedOn, takenOn, bowOn, summerOn}
 
 -- 37's test on the length that is rounded down is the one on the fraction
 taken-parts : (row : List ℕ) (x : Ship) → takenOn row (hullOf x) (deckOf (x .length .0) (housesOf x)) ≡ takenFrom row x
-unfolding takenOn hullOf deckOf takenFrom coveredS effectiveE forecastleHouse coverReach effectiveOf Before.deducted Sheer.deducted
+unfolding takenOn hullOf deckOf takenFrom coveredS effectiveE forecastleHouse coverReach effectiveOf deducted Sheer.deducted
 taken-parts row x =
     let l = x .length .0 in
     ap (λ (t : Bool). pick t 0 (deduction row l (effectiveE x)) + Sheer.deducted (x .sheer) l (coveredS x) (coverReach x))

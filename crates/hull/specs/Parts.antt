@@ -10,7 +10,7 @@ use Rattle.ship.specs.declared.Ship.{Ship}
 use Rattle.corrections.specs.Short29.{shortB}
 use Rattle.corrections.specs.Fullness30.{counted, fullness}
 use Rattle.corrections.specs.Depth31.{depthAddition}
-use Rattle.corrections.specs.Gathered.{deducted}
+use Rattle.deduction.specs.Deduction37.{deducted}
 use Rattle.sheer.specs.Sheer as Sheer
 use Rattle.bow.specs.Bow.{higher, lower, sheerTaken, forecastleTaken}
 use Rattle.mark.specs.Summer.{summerMark}

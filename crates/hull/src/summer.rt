@@ -3,13 +3,12 @@ ghost use mathlib.Core.Path.{_≡_};
 ghost use Prim.Native.Nat.{_+_, _*_, _≤_, _^_};
 ghost use Rattle.whole.specs.Pick.{pick};
 ghost use Rattle.percentages.specs.Table37.{entries};
-ghost use Rattle.corrections.specs.Deduction37.{deduction};
+ghost use Rattle.deduction.specs.Deduction37.{deduction};
 ghost use Rattle.deck.specs.Deck.{FairDeck};
 ghost use Rattle.sheer.specs.Sheer as Sheer;
 ghost use Rattle.hull.specs.Parts.{addedOn, takenOn, summerOn, FairHull};
 use crate::Hull;
 use corrections::before_sheer;
-use corrections::deduction;
 use deck::Deck;
 use percentages::Row;
 use units::Effective;
@@ -58,7 +57,7 @@ pub fn summer_on(h: Hull, d: Deck) -> u64
 {
     let l = h.length;
     let forecastle = d.forecastle;
-    let c = sheer::correct(h.mean, l, d.s, d.reach);
+    let c = sheer_correction::correct(h.mean, l, d.s, d.reach);
     let gained = added(h, d, c.added);
     let lost = taken(Row::Ordinary, h, d, c.deducted);
     let bow = bow::freeboard(h.bow, l, forecastle.part, forecastle.height);

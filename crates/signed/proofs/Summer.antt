@@ -11,6 +11,7 @@ use Rattle.houses.specs.Effective.{exactEffective}
 use Rattle.houses.proofs.Counted.{covered-most}
 use Rattle.corrections.specs.Fullness30.{counted}
 use Rattle.corrections.specs.Gathered as Before
+use Rattle.deduction.specs.Deduction37.{exactDeducted}
 use Rattle.sheer.specs.Sheer as Sheer
 use Rattle.bow.specs.Bow as Bow
 use Rattle.mark.specs.Summer.{exactSummer}
@@ -28,7 +29,7 @@ unfolding corrected exactAddedTo exactTakenFrom
 corrected-same x k =
     let l = x .length .0 in
     let a = Before.exactAdded (basis x .exact) (typeB x) l (x .depth .0) (counted (x .block)) (exactE x) in
-    let d = Before.exactDeducted (typeB x) ordinaryRow (exactEffective l (forecastleHouse x)) l (exactE x) in
+    let d = exactDeducted (typeB x) ordinaryRow (exactEffective l (forecastleHouse x)) l (exactE x) in
     let s : coveredS x ≤ l = unfold coveredS in covered-most l (housesOf x) (k .good .houses) in
     trans≈s (+s-same (refl≈s (plain a -s plain d)) (sheer-signed (x .sheer) l (coveredS x) (coverReach x) (omega (arith, k .good .length-least)) s))
     (two-differences a d (Sheer.exactAdded (x .sheer) l (coveredS x)) (Sheer.exactDeducted (x .sheer) l (coveredS x) (coverReach x)))

@@ -6,7 +6,8 @@ use Rattle.ship.specs.declared.Ship.{Ship}
 use Rattle.houses.specs.Length.{partOf}
 use Rattle.houses.specs.Effective.{exactEffective}
 use Rattle.corrections.specs.Fullness30.{counted}
-use Rattle.corrections.specs.Gathered.{exactAdded, exactDeducted}
+use Rattle.corrections.specs.Gathered.{exactAdded}
+use Rattle.deduction.specs.Deduction37.{exactDeducted}
 use Rattle.steps.specs.Steps.{typeB, coveredS, forecastleHouse, coverReach, basis}
 use Rattle.steps.specs.Exact.{exactE}
 use Rattle.signed.specs.Signed.{Signed, plain, _+s_, _-s_, _*s_, maxs}

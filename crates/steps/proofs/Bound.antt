@@ -19,7 +19,8 @@ use Rattle.houses.specs.Effective.{exactEffective}
 use Rattle.houses.proofs.Rounded.{effective-length-short}
 use Rattle.houses.proofs.Midship.{reach-most}
 use Rattle.corrections.specs.Fullness30.{counted}
-use Rattle.corrections.proofs.Gathered.{added-within, deducted-below}
+use Rattle.corrections.proofs.Gathered.{added-within}
+use Rattle.deduction.proofs.Deduction37.{deducted-below}
 use Rattle.sheer.proofs.Bound.{sheer-within}
 use Rattle.bow.proofs.Bound.{bow-within}
 use Rattle.mark.specs.Summer.{Holds}

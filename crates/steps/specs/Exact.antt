@@ -10,6 +10,7 @@ use Rattle.houses.specs.Length.{partOf}
 use Rattle.houses.specs.Effective.{exactEffective, exactEffectiveLength}
 use Rattle.corrections.specs.Fullness30.{counted}
 use Rattle.corrections.specs.Gathered as Before
+use Rattle.deduction.specs.Deduction37.{exactDeducted}
 use Rattle.sheer.specs.Sheer as Sheer
 use Rattle.bow.specs.Bow.{exactBow}
 use Rattle.mark.specs.Summer.{exactSummer}
@@ -26,7 +27,7 @@ exactAddedTo x =
 
 unfoldable pub exactTakenFrom : List ℕ → Ship → Frac
 exactTakenFrom row x =
-    Before.exactDeducted (typeB x) row (exactEffective (x .length .0) (forecastleHouse x)) (x .length .0) (exactE x)
+    exactDeducted (typeB x) row (exactEffective (x .length .0) (forecastleHouse x)) (x .length .0) (exactE x)
     +f Sheer.exactDeducted (x .sheer) (x .length .0) (coveredS x) (coverReach x)
 
 unfoldable pub exactBowOf : Ship → Frac

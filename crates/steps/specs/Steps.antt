@@ -15,6 +15,7 @@ use Rattle.houses.specs.Forecastle.{forecastleOf}
 use Rattle.houses.specs.Cover.{reach}
 use Rattle.corrections.specs.Fullness30.{counted}
 use Rattle.corrections.specs.Gathered as Before
+use Rattle.deduction.specs.Deduction37.{deducted}
 use Rattle.sheer.specs.Sheer as Sheer
 use Rattle.bow.specs.Bow.{bowFreeboard}
 use Rattle.mark.specs.Summer.{summerMark}
@@ -55,7 +56,7 @@ addedTo x =
 -- what is taken away: the houses' deduction (37) by a row of percentages, and sheer (38) in excess
 unfoldable pub takenFrom : List ℕ → Ship → ℕ
 takenFrom row x =
-    Before.deducted (typeB x) row (exactEffective (x .length .0) (forecastleHouse x)) (x .length .0) (effectiveE x)
+    deducted (typeB x) row (exactEffective (x .length .0) (forecastleHouse x)) (x .length .0) (effectiveE x)
     + Sheer.deducted (x .sheer) (x .length .0) (coveredS x) (coverReach x)
 
 -- bow height (39)

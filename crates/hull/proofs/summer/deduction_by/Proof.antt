@@ -1,7 +1,7 @@
 -- E/L lies between two entries of the row, and the share worked from these two is the row's.
 use Rattle.percentages.proofs.Rule37.{each-row}
-use Rattle.corrections.specs.Deduction37.{deduction}
-use Rattle.corrections.proofs.Deduction37.{neighbours, share-read}
+use Rattle.deduction.specs.Deduction37.{deduction}
+use Rattle.deduction.proofs.Deduction37.{neighbours, share-read}
 use native.Mathlib.Omega.{arith}
 use borrow.Author.Needs.{needs}
 use Rattle.hull.proofs.summer.deduction_by.Statement.{statement}

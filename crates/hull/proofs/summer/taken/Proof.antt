@@ -1,6 +1,6 @@
 use mathlib.Core.Path.{refl}
 use borrow.Author.Needs.{needs}
-use Rattle.corrections.specs.Gathered.{deducted}
+use Rattle.deduction.specs.Deduction37.{deducted}
 use Rattle.hull.specs.Parts.{takenOn}
 use Rattle.hull.proofs.summer.taken.Statement.{statement}
 use Rattle.hull.proofs.summer.taken.Tie as tie

@@ -15,14 +15,14 @@ use Rattle.record.specs.Writing.{writingOf, written}
 use Rattle.roundtrip.proofs.Theorems.{write-what-was-read}
 use Rattle.marks.specs.Marks.{sheetIn}
 use Rattle.poop.specs.Question.{replyIn}
-use Rattle.face.specs.declared.flat.FlatShip.{FlatShip}
+use Rattle.flat.specs.declared.FlatShip.{FlatShip}
 use Rattle.face.specs.declared.MarksAnswer.{MarksAnswer}
 use Rattle.face.specs.declared.PoopAnswer.{PoopAnswer}
 use Rattle.face.specs.declared.ReadAnswer.{ReadAnswer}
 use Rattle.face.specs.declared.WriteAnswer.{WriteAnswer}
-use Rattle.face.specs.Flat.{shipFrom}
+use Rattle.flat.specs.Flat.{shipFrom}
 use Rattle.face.specs.Answers.{fromSheet, fromReply, fromReading, fromVerdict}
-use Rattle.face.proofs.Kept.{ship-back}
+use Rattle.flat.proofs.Kept.{ship-back}
 
 -- a reading whose number is 0 is an accepted one
 read-whole : (s : List ℕ) → readingIn s .verdict .number ≡ 0 → readingIn s ≡ record { verdict = accepted; ship = readingIn s .ship }

@@ -17,7 +17,7 @@ use Rattle.face.specs.declared.MarksAnswer.{MarksAnswer}
 use Rattle.face.specs.declared.PoopAnswer.{PoopAnswer}
 use Rattle.face.specs.declared.ReadAnswer.{ReadAnswer}
 use Rattle.face.specs.declared.WriteAnswer.{WriteAnswer}
-use Rattle.face.specs.Flat.{shipOf}
+use Rattle.flat.specs.Flat.{shipOf}
 
 unfoldable pub fromSheet : Sheet → MarksAnswer
 fromSheet a = record {

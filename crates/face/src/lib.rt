@@ -12,9 +12,9 @@ ghost use Rattle.mark.specs.Others.{sheet};
 ghost use Rattle.mark.specs.declared.Answer.the-variants.{Given, Refused};
 ghost use Rattle.marks.specs.Marks.{sheetIn};
 ghost use Rattle.poop.specs.Question.{replyIn};
-ghost use Rattle.face.specs.Flat.{shipFrom};
+ghost use Rattle.flat.specs.Flat.{shipFrom};
 ghost use Rattle.face.specs.Answers.{fromSheet, fromReply, fromReading, fromVerdict, Bounded, Small};
-use crate::flat::FlatShip;
+use flat::FlatShip;
 use mark::Answer;
 use mark::Marks;
 use record::HEAD_BYTES;
@@ -22,8 +22,6 @@ use record::HOUSE_BYTES;
 use ship::refusal;
 use ship::refusal::Refusal;
 use ship::refusal::Verdict;
-
-pub mod flat;
 
 // The six marks in mm below the deck line. Refusal 0 refuses nothing; beside any other all six are 0.
 #[repr(C)]

@@ -1,7 +1,7 @@
 use borrow.Author.Needs.{needs}
-use Rattle.face.specs.Flat.{shipFrom}
-use Rattle.face.proofs.flat.to_ship.Statement.{statement}
-use Rattle.face.proofs.flat.to_ship.Tie as tie
+use Rattle.flat.specs.Flat.{shipFrom}
+use Rattle.flat.proofs.to_ship.Statement.{statement}
+use Rattle.flat.proofs.to_ship.Tie as tie
 
 pub to-ship-spec : {M : Type 1} → statement M
 unfolding shipFrom

@@ -17,8 +17,8 @@ use Rattle.record.specs.Layout.{bit}
 use Rattle.ship.specs.declared.House.{House}
 use Rattle.ship.specs.declared.Ship.{Ship}
 use Rattle.ship.specs.Good.{GoodHouse}
-use Rattle.face.specs.declared.flat.FlatHouse.{FlatHouse}
-use Rattle.face.specs.Flat.{sheerMm, houseOf, shipOf, ordinateFrom, houseFrom, shipFrom}
+use Rattle.flat.specs.declared.FlatHouse.{FlatHouse}
+use Rattle.flat.specs.Flat.{sheerMm, houseOf, shipOf, ordinateFrom, houseFrom, shipFrom}
 
 -- ---- there and back
 -- a number counted from a zero, which lies above the number 0

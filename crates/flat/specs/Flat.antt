@@ -10,8 +10,8 @@ use Rattle.record.specs.Layout.{bit}
 use Rattle.ship.specs.declared.House.{House}
 use Rattle.ship.specs.declared.Ship.{Ship}
 use Rattle.ship.specs.Vessel.{houseAt}
-use Rattle.face.specs.declared.flat.FlatHouse.{FlatHouse}
-use Rattle.face.specs.declared.flat.FlatShip.{FlatShip}
+use Rattle.flat.specs.declared.FlatHouse.{FlatHouse}
+use Rattle.flat.specs.declared.FlatShip.{FlatShip}
 
 -- ---- to 01's terms: an ordinate of sheer, a house, a ship
 abbrev pub sheerMm : Ordinate → ℤ

@@ -3,10 +3,10 @@ use mathlib.Core.Path.{_≡_, _∙_}
 use native.Mathlib.Omega.{arith}
 use borrow.Author.Needs.{needs}
 use Rattle.ship.specs.Vessel.{noHouse}
-use Rattle.face.specs.Flat.{houseFrom}
-use Rattle.face.proofs.Filled.{filled, filled-none, filled-more, filled-all}
-use Rattle.face.proofs.flat.to_houses.Statement.{statement}
-use Rattle.face.proofs.flat.to_houses.Tie as tie
+use Rattle.flat.specs.Flat.{houseFrom}
+use Rattle.flat.proofs.Filled.{filled, filled-none, filled-more, filled-all}
+use Rattle.flat.proofs.to_houses.Statement.{statement}
+use Rattle.flat.proofs.to_houses.Tie as tie
 
 abbrev Inv-loop : tie.InvT-loop
 Inv-loop flat hs₀ k₀ hs k = (k ≤ 8) × (hs ≡ filled houseFrom noHouse k flat)

@@ -3,7 +3,7 @@ ghost use mathlib.Core.Path.{_≡_};
 ghost use Prim.Native.Nat.{_<_};
 ghost use mathlib.Core.List.{map};
 ghost use Rattle.record.specs.Layout.{bit};
-ghost use Rattle.face.specs.Flat.{sheerMm, houseOf, shipOf, ordinateFrom, houseFrom, shipFrom, Near, NearHouses, NearSheer};
+ghost use Rattle.flat.specs.Flat.{sheerMm, houseOf, shipOf, ordinateFrom, houseFrom, shipFrom, Near, NearHouses, NearSheer};
 use ship::House;
 use ship::Ship;
 use units::LIFT;

@@ -7,10 +7,10 @@ use mir.ValLaws.{toZ-ofZ}
 use native.Mathlib.Omega.{arith}
 use borrow.Author.Needs.{needs}
 use Rattle.units.specs.Datum.{lift, ordinateAt}
-use Rattle.face.specs.Flat.{ordinateFrom}
-use Rattle.face.proofs.Filled.{filled, filled-none, filled-more, filled-all}
-use Rattle.face.proofs.flat.to_sheer.Statement.{statement}
-use Rattle.face.proofs.flat.to_sheer.Tie as tie
+use Rattle.flat.specs.Flat.{ordinateFrom}
+use Rattle.flat.proofs.Filled.{filled, filled-none, filled-more, filled-all}
+use Rattle.flat.proofs.to_sheer.Statement.{statement}
+use Rattle.flat.proofs.to_sheer.Tie as tie
 
 abbrev Inv-loop : tie.InvT-loop
 Inv-loop mm s₀ k₀ s k = (k ≤ 6) × (s ≡ filled ordinateFrom (record { 0 = lift }) k mm)

@@ -6,9 +6,9 @@ use native.Mathlib.Omega.{arith}
 use borrow.Author.Needs.{needs}
 use Rattle.whole.proofs.Difference.{minus-fits}
 use Rattle.units.specs.Datum.{datum, mmOf}
-use Rattle.face.specs.Flat.{houseOf}
-use Rattle.face.proofs.flat.of_house.Statement.{statement}
-use Rattle.face.proofs.flat.of_house.Tie as tie
+use Rattle.flat.specs.Flat.{houseOf}
+use Rattle.flat.proofs.of_house.Statement.{statement}
+use Rattle.flat.proofs.of_house.Tie as tie
 
 pub of-house-spec : {M : Type 1} → statement M
 unfolding houseOf

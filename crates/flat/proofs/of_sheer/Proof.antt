@@ -9,10 +9,10 @@ use mir.Syntax.{w64}
 use mir.Val.{toZ, ofZ}
 use Rattle.whole.proofs.Difference.{minus-fits}
 use Rattle.units.specs.Datum.{lift, sheerOf, sheerAt}
-use Rattle.face.specs.Flat.{sheerMm}
-use Rattle.face.proofs.Filled.{filled, filled-none, filled-more, filled-all}
-use Rattle.face.proofs.flat.of_sheer.Statement.{statement}
-use Rattle.face.proofs.flat.of_sheer.Tie as tie
+use Rattle.flat.specs.Flat.{sheerMm}
+use Rattle.flat.proofs.Filled.{filled, filled-none, filled-more, filled-all}
+use Rattle.flat.proofs.of_sheer.Statement.{statement}
+use Rattle.flat.proofs.of_sheer.Tie as tie
 
 abbrev Inv-loop : tie.InvT-loop
 Inv-loop s mm₀ k₀ mm k = (k ≤ 6) × (mm ≡ filled sheerMm (pos 0) k s)

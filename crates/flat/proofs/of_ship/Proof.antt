@@ -1,7 +1,7 @@
 use borrow.Author.Needs.{needs}
-use Rattle.face.specs.Flat.{shipOf}
-use Rattle.face.proofs.flat.of_ship.Statement.{statement}
-use Rattle.face.proofs.flat.of_ship.Tie as tie
+use Rattle.flat.specs.Flat.{shipOf}
+use Rattle.flat.proofs.of_ship.Statement.{statement}
+use Rattle.flat.proofs.of_ship.Tie as tie
 
 pub of-ship-spec : {M : Type 1} → statement M
 unfolding shipOf

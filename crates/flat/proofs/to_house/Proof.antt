@@ -5,9 +5,9 @@ use mir.Syntax.{w64}
 use mir.Facts.{toZ-ofZ}
 use borrow.Author.Needs.{needs}
 use Rattle.units.specs.Datum.{stationAt}
-use Rattle.face.specs.Flat.{houseFrom}
-use Rattle.face.proofs.flat.to_house.Statement.{statement}
-use Rattle.face.proofs.flat.to_house.Tie as tie
+use Rattle.flat.specs.Flat.{houseFrom}
+use Rattle.flat.proofs.to_house.Statement.{statement}
+use Rattle.flat.proofs.to_house.Tie as tie
 
 pub to-house-spec : {M : Type 1} → statement M
 unfolding houseFrom

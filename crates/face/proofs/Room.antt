@@ -23,7 +23,7 @@ use Rattle.marks.specs.Steps.{summerOf}
 use Rattle.marks.specs.Marks.{particularsOf, sheetIn}
 use Rattle.marks.proofs.Parts.{fair-particulars}
 use Rattle.marks.proofs.Demand.{sound}
-use Rattle.face.specs.Answers.{Small}
+use Rattle.answers.specs.Answers.{Small}
 
 -- ---- marks
 small-marks : (p : Particulars) (S : ℕ) → S < p .depth .0 → p .depth .0 ≤ 60000 → p .floor ≤ 60000 → Small (sixMarks p S)

@@ -16,12 +16,12 @@ use Rattle.roundtrip.proofs.Theorems.{write-what-was-read}
 use Rattle.marks.specs.Marks.{sheetIn}
 use Rattle.poop.specs.Question.{replyIn}
 use Rattle.flat.specs.declared.FlatShip.{FlatShip}
-use Rattle.face.specs.declared.MarksAnswer.{MarksAnswer}
-use Rattle.face.specs.declared.PoopAnswer.{PoopAnswer}
-use Rattle.face.specs.declared.ReadAnswer.{ReadAnswer}
-use Rattle.face.specs.declared.WriteAnswer.{WriteAnswer}
+use Rattle.answers.specs.declared.MarksAnswer.{MarksAnswer}
+use Rattle.answers.specs.declared.PoopAnswer.{PoopAnswer}
+use Rattle.answers.specs.declared.ReadAnswer.{ReadAnswer}
+use Rattle.answers.specs.declared.WriteAnswer.{WriteAnswer}
 use Rattle.flat.specs.Flat.{shipFrom}
-use Rattle.face.specs.Answers.{fromSheet, fromReply, fromReading, fromVerdict}
+use Rattle.answers.specs.Answers.{fromSheet, fromReply, fromReading, fromVerdict}
 use Rattle.flat.proofs.Kept.{ship-back}
 
 -- a reading whose number is 0 is an accepted one

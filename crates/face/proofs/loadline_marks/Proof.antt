@@ -12,8 +12,8 @@ use Rattle.mark.specs.Others.{sheet}
 use Rattle.marks.specs.Exact as Exact
 use Rattle.marks.specs.Exact.{exactSummerOf}
 use Rattle.marks.specs.Marks.{sheetIn}
-use Rattle.face.specs.declared.MarksAnswer.{MarksAnswer}
-use Rattle.face.specs.Answers.{fromSheet}
+use Rattle.answers.specs.declared.MarksAnswer.{MarksAnswer}
+use Rattle.answers.specs.Answers.{fromSheet}
 use Rattle.face.proofs.Room.{small-in}
 use Rattle.face.proofs.loadline_marks.Statement.{statement}
 use Rattle.face.proofs.loadline_marks.Tie as tie

@@ -1,8 +1,8 @@
 use lib.IntN.{pos}
 use borrow.Author.Needs.{needs}
-use Rattle.face.specs.Answers.{fromSheet}
-use Rattle.face.proofs.unmarked.Statement.{statement}
-use Rattle.face.proofs.unmarked.Tie as tie
+use Rattle.answers.specs.Answers.{fromSheet}
+use Rattle.answers.proofs.unmarked.Statement.{statement}
+use Rattle.answers.proofs.unmarked.Tie as tie
 
 pub unmarked-spec : {M : Type 1} → statement M
 unfolding fromSheet

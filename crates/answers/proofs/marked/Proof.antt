@@ -6,9 +6,9 @@ use mir.Syntax.{w64}
 use mir.Val.{toZ, ofZ}
 use native.Mathlib.Omega.{arith}
 use borrow.Author.Needs.{needs, sfits-of}
-use Rattle.face.specs.Answers.{fromSheet}
-use Rattle.face.proofs.marked.Statement.{statement}
-use Rattle.face.proofs.marked.Tie as tie
+use Rattle.answers.specs.Answers.{fromSheet}
+use Rattle.answers.proofs.marked.Statement.{statement}
+use Rattle.answers.proofs.marked.Tie as tie
 
 -- the machine's number of a small mark is the mark
 back : (n : ℕ) → n < 2 ^ 32 → (z : ℤ) → z ≡ pos n → toZ w64 (ofZ w64 z) ≡ pos n

@@ -7,8 +7,8 @@ use Rattle.whole.specs.Pick.{pick}
 use Rattle.ship.specs.declared.refusal.Verdict.{Verdict}
 use Rattle.ship.specs.Refusals.{paper, numberOf}
 use Rattle.ship.proofs.OneToOne.{number-above-0}
-use Rattle.face.proofs.length_of.Statement.{statement}
-use Rattle.face.proofs.length_of.Tie as tie
+use Rattle.answers.proofs.length_of.Statement.{statement}
+use Rattle.answers.proofs.length_of.Tie as tie
 
 -- an accepted ship has at most eight houses
 few : (c : tie.After-enum-told) → c .before .before .args .n ≤ 8

@@ -13,10 +13,10 @@ use Rattle.mark.specs.Summer.{Holds}
 use Rattle.mark.specs.Others.{Sheet}
 use Rattle.marks.specs.Exact.{exactSummerOf}
 use Rattle.poop.specs.Question.{Reply}
-use Rattle.face.specs.declared.MarksAnswer.{MarksAnswer}
-use Rattle.face.specs.declared.PoopAnswer.{PoopAnswer}
-use Rattle.face.specs.declared.ReadAnswer.{ReadAnswer}
-use Rattle.face.specs.declared.WriteAnswer.{WriteAnswer}
+use Rattle.answers.specs.declared.MarksAnswer.{MarksAnswer}
+use Rattle.answers.specs.declared.PoopAnswer.{PoopAnswer}
+use Rattle.answers.specs.declared.ReadAnswer.{ReadAnswer}
+use Rattle.answers.specs.declared.WriteAnswer.{WriteAnswer}
 use Rattle.flat.specs.Flat.{shipOf}
 
 unfoldable pub fromSheet : Sheet → MarksAnswer

@@ -1,6 +1,6 @@
 // Whole numbers written in decimal digits.
 ghost use mathlib.Core.Path.{_≡_};
-ghost use Rattle.shortest.specs.Decimal.{parsed};
+ghost use Rattle.decimal.specs.Decimal.{parsed};
 
 pub enum Parsed {
     Number(u64),

@@ -3,10 +3,10 @@ use Prim.Native.Nat.{_-_, _^_, _≤_, _<_}
 use mathlib.Core.Path.{_≡_, sym, _∙_}
 use lib.ListN.{length, drop, getD}
 use native.Mathlib.Omega.{arith}
-use Rattle.shortest.specs.Decimal.{numberFrom, parsed}
-use Rattle.shortest.proofs.Digits.{digit, some-bytes, no-bytes, not-a-digit, too-large, taken, all-taken}
-use Rattle.shortest.proofs.decimal.parse.Statement.{statement}
-use Rattle.shortest.proofs.decimal.parse.Tie as tie
+use Rattle.decimal.specs.Decimal.{numberFrom, parsed}
+use Rattle.decimal.proofs.Digits.{digit, some-bytes, no-bytes, not-a-digit, too-large, taken, all-taken}
+use Rattle.decimal.proofs.parse.Statement.{statement}
+use Rattle.decimal.proofs.parse.Tie as tie
 
 abbrev Inv-loop : tie.InvT-loop
 Inv-loop s v₀ i₀ v i = (i ≤ length s) × (v < 2 ^ 64) × (numberFrom v (drop i s) ≡ parsed s)

@@ -11,8 +11,8 @@ use native.Mathlib.Numerals.{add-one}
 use native.Mathlib.Omega.{arith}
 use Rattle.whole.specs.Pick.{pick}
 use Rattle.ship.proofs.Lines.{or-false}
-use Rattle.shortest.specs.declared.decimal.Parsed.the-variants.{Number, Bad}
-use Rattle.shortest.specs.Decimal.{noDigit, numberFrom, parsed}
+use Rattle.decimal.specs.declared.Parsed.the-variants.{Number, Bad}
+use Rattle.decimal.specs.Decimal.{noDigit, numberFrom, parsed}
 
 -- a digit's byte
 pub digit : (b : ℕ) → noDigit b ≡ false → (48 ≤ b) × (b ≤ 57)

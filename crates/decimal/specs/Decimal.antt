@@ -4,8 +4,8 @@ use mathlib.Core.Bool.{Bool, _||_}
 use mathlib.Core.List.{List, [], _∷_}
 use lib.Dec.{leb, ltb}
 use Rattle.whole.specs.Pick.{pick}
-use Rattle.shortest.specs.declared.decimal.Parsed.{Parsed}
-use Rattle.shortest.specs.declared.decimal.Parsed.the-variants.{Number, Bad}
+use Rattle.decimal.specs.declared.Parsed.{Parsed}
+use Rattle.decimal.specs.declared.Parsed.the-variants.{Number, Bad}
 
 -- 0 to 9 are the bytes 48 to 57
 abbrev pub noDigit : ℕ → Bool

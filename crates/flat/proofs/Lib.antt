@@ -1,3 +1,4 @@
 pub mod Filled
 pub mod Near
 pub mod Kept
+pub mod Clean

@@ -1,9 +1,10 @@
 -- A ship in 01's own signed millimetres and numbers, as the calls for C have it, and the ship of the steps, whose stations and sheer are lifted above zero.
-use Prim.Native.Nat.{ℕ, _+_, _<_}
+use Prim.Native.Nat.{ℕ, _+_, _-_, _<_}
 use mathlib.Core.Bool.{not}
-use mathlib.Core.List.{List, map}
+use mathlib.Core.List.{List, _++_, map}
 use lib.Dec.{eqb}
-use lib.IntN.{ℤ}
+use lib.IntN.{ℤ, pos}
+use lib.ListN.{take, replicate}
 use Rattle.units.specs.declared.Ordinate.{Ordinate}
 use Rattle.units.specs.Datum.{datum, lift, mmOf, stationAt, sheerOf, ordinateAt, sheerAt}
 use Rattle.record.specs.Layout.{bit}
@@ -79,3 +80,44 @@ pub record NearHouses (hs : List House) : Type 0 where
 
 pub record NearSheer (o : List Ordinate) : Type 0 where
   pub each : (k : ℕ) → sheerAt o k < lift + lift
+
+-- ---- what a record keeps of a flat ship: flags as 0 or 1, places beyond n at zero
+abbrev pub flagOf : ℕ → ℕ
+flagOf a = bit (not (eqb a 0))
+
+abbrev pub flatZeroHouse : FlatHouse
+flatZeroHouse = record { enclosed = 0; quarterdeck = 0; aft = pos 0; fore = pos 0; height = 0 }
+
+abbrev pub flatCleanHouse : FlatHouse → FlatHouse
+flatCleanHouse h = record { enclosed = flagOf (h .enclosed); quarterdeck = flagOf (h .quarterdeck); aft = h .aft; fore = h .fore; height = h .height }
+
+unfoldable pub flatClean : FlatShip → FlatShip
+flatClean x = record {
+  kind = x .kind;
+  n = x .n;
+  length = x .length;
+  depth = x .depth;
+  moulded = x .moulded;
+  block = x .block;
+  waterplane = x .waterplane;
+  sheer = x .sheer;
+  displacement = x .displacement;
+  immersion = x .immersion;
+  houses = map flatCleanHouse (take (x .n) (x .houses)) ++ replicate (8 - x .n) flatZeroHouse;
+}
+
+-- beside a refusal every number is zero
+unfoldable pub flatZero : FlatShip
+flatZero = record {
+  kind = 0;
+  n = 0;
+  length = 0;
+  depth = 0;
+  moulded = 0;
+  block = 0;
+  waterplane = 0;
+  sheer = replicate 6 (pos 0);
+  displacement = 0;
+  immersion = 0;
+  houses = replicate 8 flatZeroHouse;
+}

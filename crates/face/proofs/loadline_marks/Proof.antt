@@ -11,8 +11,8 @@ use Rattle.mark.specs.declared.Answer.the-variants.{Given, Refused}
 use Rattle.mark.specs.Others.{sheet}
 use Rattle.steps.specs.Exact.{exactSummerOf}
 use Rattle.marks.specs.Marks.{sheetIn, Bounded}
-use Rattle.face.specs.declared.MarksAnswer.{MarksAnswer}
-use Rattle.face.specs.Answers.{fromSheet}
+use Rattle.answers.specs.declared.MarksAnswer.{MarksAnswer}
+use Rattle.answers.specs.Answers.{fromSheet}
 use Rattle.face.proofs.Room.{small-in}
 use Rattle.face.proofs.loadline_marks.Statement.{statement}
 use Rattle.face.proofs.loadline_marks.Tie as tie

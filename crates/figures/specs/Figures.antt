@@ -41,7 +41,7 @@ row k given stated = record { figure = k; given = map pos given; stated = map po
 abbrev pub one : ℕ → ℕ → ℕ → Row
 one k given stated = row k (given ∷ []) (stated ∷ [])
 
--- ---- k1 and k2: the bytes of their records. After the first two, which have n, the heads are the same
+-- ---- k1 and k2: the bytes of their records, of which k2's is sample/k2.record. After the first two bytes, which have n, the heads are the same
 abbrev pub particulars : List ℕ
 particulars =
     0x15 ∷ 0xf9 ∷ 0x01 ∷ 0x77 ∷ 0x01 ∷ 0x77 ∷ 0x06 ∷ 0xa4 ∷ 0x1f ∷ 0x40 ∷ 0x0f ∷ 0xa0 ∷ 0x1b ∷ 0xc0

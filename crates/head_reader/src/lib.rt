@@ -1,4 +1,5 @@
-// The head of a record, read from its 27 bytes as four words, and checked.
+// The head of a record, read from its 27 bytes as four words, and checked. Of a word a shift drops what stands after a field,
+// the remainder what stands before it.
 ghost use mathlib.Core.Path.{_≡_};
 ghost use Prim.Native.Nat.{_≤_};
 ghost use lib.ListN.{length};
@@ -16,7 +17,6 @@ use ship::refusal::Verdict;
 use units::Ordinate;
 use units::Span;
 
-// A shift drops what stands after a field, the remainder what stands before it.
 // The ordinates of sheer, from the word of the first four and that of the last two.
 fn sheer_in(four: u64, last: u64) -> [Ordinate; 6]
     ensures { λ r. ⌜ r ≡ sheerIn four last ⌝ }
@@ -41,7 +41,7 @@ pub fn read(s: &[u8]) -> Head
     let four = bits::word(&s[12..19]);
     let last = bits::word(&s[19..27]);
     let sheer = sheer_in(four, last);
-    // M stands across two words.
+    // M begins in the first word and ends in the second.
     let high = first % range::MOULDED_FIRST;
     let low = (fullness >> after::MOULDED_LAST) % range::MOULDED_LAST;
     Head {

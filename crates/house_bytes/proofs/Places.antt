@@ -13,7 +13,7 @@ use Rattle.record.specs.Layout.{houseWidths, houseOf, houseIn, spareIn, houseAt
 use Rattle.record.specs.Reading.{sparesIn}
 use Rattle.record.proofs.Parts.{length-housesIn}
 
--- a house of zero bits is none
+-- a house of zero bits is the empty house
 pub zero-bits : houseOf (unpack houseWidths 0) ≡ noHouse
 unfolding unpack piece
 zero-bits = refl

@@ -1,4 +1,4 @@
--- Laws of two's complement: only the bits of the field count, and a second turn undoes the first.
+-- Laws of `turn`: only the bits of the field count, and a second turn undoes the first.
 use Prim.Native.Nat.{ℕ, _+_, _-_, _*_, _%_, _≤_, _<_}
 use mathlib.Core.Path.{_≡_, refl}
 use native.Mathlib.Nat.{mod-mod, mod-eq-of-lt, add-mod-right}

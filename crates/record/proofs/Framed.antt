@@ -38,7 +38,7 @@ frame-passed s p = record {
   blank = eqb-true (headIn s .spare + sparesIn s (headIn s .count)) 0 (not-false (eqb (headIn s .spare + sparesIn s (headIn s .count)) 0) (p .1 .1 .1 .1 .1 .0));
 }
 
--- and back
+-- such bytes pass checks 1 to 6
 pub frame-passes : (s : List ℕ) → Framed s → first (frameLines s) ≡ accepted
 frame-passes s f =
     first-passed (frameLines s) (

@@ -35,7 +35,7 @@ module _ (x : Ship) (shaped : Shaped x) (buf : List ℕ) (wrote : writingOf (len
       let l = length-record x shaped (right .0) (right .1) (right .2) in
       rw wrote (ap readingIn (take-at (recordBytes x) _ (recordLength (x .n)) l) ∙ read-back x shaped (right .0) (right .1) (right .2))
 
-  -- and the two are equal as document 01 has it
+  -- the ship written and the ship read are equal in document 01's sense
   pub same-ship : Same x (clean x)
   same-ship =
       let e : length (housesOf x) ≡ x .n = length-take-le (x .n) (x .houses) (omega (arith, shaped .eight, right .1)) in

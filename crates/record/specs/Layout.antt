@@ -36,7 +36,8 @@ lastType = 1
 abbrev pub mostHouses : ℕ
 mostHouses = 8
 
--- two's complement as a number counted from the lowest: the two halves of the range change places; and back
+-- a field in two's complement, as its signed number plus half the range, which is never below zero: 0 becomes half, and -half becomes 0.
+-- The same turn leads back (proofs/Complement.antt), and proofs/Signed.antt has it in signed numbers
 abbrev pub turn : ℕ → ℕ → ℕ
 turn half u = (u % (2 * half) + half) % (2 * half)
 

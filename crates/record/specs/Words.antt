@@ -1,5 +1,5 @@
 -- The head as four words of whole bytes. M stands across the end of the first: it is cut there, 12 bits and 4.
--- Contracts of `read` and `write` tie the words to the layout of `record`: nobody needs to believe this page.
+-- The contracts of `head_reader::read` and `head_writer::write` speak of the layout alone: nobody needs to believe this page.
 use Prim.Native.Nat.{ℕ, _/_, _%_, _^_}
 use mathlib.Core.List.{List, [], _∷_, _++_}
 use lib.ListN.{take, drop}

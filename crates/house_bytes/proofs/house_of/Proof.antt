@@ -1,4 +1,4 @@
--- The word's pieces are the fields; a turn takes no more of a word than its piece.
+-- The word's pieces are the fields; `turn` looks at no bit of the word but the field's own.
 use Prim.Native.Nat.{_/_, _%_, _^_}
 use mathlib.Core.Path.{sym, _∙_}
 use lib.Dec.{eqb}

@@ -59,6 +59,10 @@ module _ (fits : ℕ → Bool) (L : ℕ) where
   of-none r (fitting k m e f) z = absurd (omega arith)
   of-none r (none f) z = f
 
+  beside : (r : Reply) → Shortest fits L r → ¬ (r .verdict .number ≡ 0) → r .decimetres ≡ 0
+  beside r (fitting k m e f) n = absurd (n refl)
+  beside r (none f) n = refl
+
 module _ (s : List ℕ) (height wish : ℕ) where
   abbrev x : Ship
   x = shipIn s
@@ -93,6 +97,15 @@ module _ (s : List ℕ) (height wish : ℕ) where
   unfolding replyIn pick
   one-length e r f =
       rw e (one-shortest (fitsAt x height wish) (x .length .0) r (shortestFor x height wish) f (is-shortest x height wish))
+
+  -- beside a refusal, whichever it is, the length is zero
+  pub zero-beside-refusal : ¬ (replyIn s height wish .verdict .number ≡ 0) → replyIn s height wish .decimetres ≡ 0
+  unfolding replyIn pick
+  zero-beside-refusal = go (eqb (first lines .number) 0)
+    where
+      go : (b : Bool) → let r = pick b (shortestFor x height wish) (refusing (first lines)) in ¬ (r .verdict .number ≡ 0) → r .decimetres ≡ 0
+      go true n = beside (fitsAt x height wish) (x .length .0) (shortestFor x height wish) (is-shortest x height wish) n
+      go false n = refl
 
 -- ---- a k fits by 9 to 13: 7 and 8 pass on the ship with the poop as on the ship without
 fields-either : (x : Ship) (h : House) (b : Bool) → AllPass (fieldLines x) → AllPass (fieldLines (pick b x (withFirst h x)))

@@ -22,7 +22,7 @@ pub struct Effective(pub u64);
 // A freeboard, in micrometres.
 pub struct Freeboard(pub u64);
 
-// An ordinate of sheer, in millimetres above a line that lies 8192 mm below the deck line, so that none is below zero.
+// An ordinate of sheer: its signed millimetres plus 8192, so that none is below zero.
 pub struct Ordinate(pub u64);
 
 // The ordinate of no sheer.

@@ -1,11 +1,13 @@
 -- A longer poop can raise the mark, and one longer still can fit. So a search that stops where the mark first rises is wrong: a ship shows it.
 use Prim.Native.Nat.{ℕ, zero, suc, _+_}
 use mathlib.Core.Bool.{Bool, true, false, true≢false}
-use mathlib.Core.List.{[], _∷_}
+use mathlib.Core.List.{List, [], _∷_, map}
 use mathlib.Core.Path.{_≡_, refl, sym, ap, _∙_}
 use native.Mathlib.Omega.{arith}
 use lib.Dec.{ltb}
 use lib.ListN.{replicate}
+use Rattle.units.specs.declared.Ordinate.{Ordinate}
+use Rattle.units.specs.Datum.{lift}
 use Rattle.ship.specs.declared.Ship.{Ship}
 use Rattle.ship.specs.Vessel.{noHouse}
 use Rattle.steps.specs.Steps.{summerOf}
@@ -13,8 +15,11 @@ use Rattle.trial.specs.Poop.{withPoop, fitsAt}
 use Rattle.poop.specs.Question.{Reply, given, noLength, shortestFor}
 use Rattle.poop.proofs.Search.{is-shortest}
 use Rattle.poop.proofs.Theorems.{of-none}
-use Rattle.figures.specs.Figures.{house, ordinates}
+use Rattle.figures.specs.Figures.{house}
 use Rattle.figures.proofs.Claim.{Tools, Houses, Corrections, Marking, Asking}
+
+abbrev ordinates : List ℕ → List Ordinate
+ordinates o = map (λ (mm : ℕ). record { 0 = lift + mm }) o
 
 -- type A, with a house amidships and more sheer than the standard; of 150 mm, a poop of 0, 1 and 280 dm gives S 823, 824 and 820
 unfoldable pub rising : Ship

@@ -38,6 +38,10 @@ pub record Held (h : House) : Type 0 where
 fields-fit : (h : House) → h .height .0 < 8192 → Fit houseWidths (houseFields h)
 fields-fit h p = omega (arith, bit-lt (h .enclosed), bit-lt (h .quarterdeck))
 
+fields-house : (a b c d e g : ℕ) → let f = a ∷ b ∷ c ∷ d ∷ e ∷ g ∷ [] in Fit houseWidths f → g ≡ 0 → houseFields (houseOf f) ≡ f
+fields-house a b c d e g w z =
+    λ i. bit-there a (w .0) i ∷ bit-there b (w .1 .0) i ∷ turn-turn datum c (w .1 .1 .0) i ∷ turn-turn datum d (w .1 .1 .1 .0) i ∷ e ∷ sym z i ∷ []
+
 house-fields : (h : House) → Held h → houseOf (houseFields h) ≡ h
 house-fields h p = λ i. record {
   enclosed = bit-back (h .enclosed) i;
@@ -46,10 +50,6 @@ house-fields h p = λ i. record {
   fore = record { 0 = turn-turn datum (h .fore .0) (p .fore) i };
   height = h .height;
 }
-
-fields-house : (a b c d e g : ℕ) → let f = a ∷ b ∷ c ∷ d ∷ e ∷ g ∷ [] in Fit houseWidths f → g ≡ 0 → houseFields (houseOf f) ≡ f
-fields-house a b c d e g w z =
-    λ i. bit-there a (w .0) i ∷ bit-there b (w .1 .0) i ∷ turn-turn datum c (w .1 .1 .0) i ∷ turn-turn datum d (w .1 .1 .1 .0) i ∷ e ∷ sym z i ∷ []
 
 fields-back : (h : House) → h .height .0 < 8192 → unpack houseWidths (number (houseBytes h)) ≡ houseFields h
 unfolding houseBytes

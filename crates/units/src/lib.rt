@@ -21,7 +21,7 @@ pub struct Effective(pub u64);
 // A freeboard, in micrometres.
 pub struct Freeboard(pub u64);
 
-// An ordinate of sheer: signed millimetres with 8192 added, its lift, so that none is below zero.
+// An ordinate of sheer: its signed millimetres plus 8192, so that none is below zero.
 pub struct Ordinate(pub u64);
 
 // The ordinate of no sheer: 0 mm.
@@ -47,13 +47,6 @@ pub fn forward_of_ap(l: Span) -> Station
 {
     let mm = l.0;
     Station(AP + mm)
-}
-
-// The station that lies `l` abaft it; what would be below 0 is 0.
-pub fn abaft_of_ap(l: Span) -> Station
-    ensures { λ r. ⌜ r .0 ≡ datum - l .0 ⌝ }
-{
-    Station(whole::less(AP, l.0))
 }
 
 // Whether the first of two stations lies abaft the second.

@@ -10,8 +10,16 @@
  *
  * What is proved (in Rattle; docs/PROMISES.md has the list): for every byte string and every number, the marks, ship,
  * length or refusal that come back, and each byte of the buffer afterwards.
- * What is not: that pointer and length describe memory which the caller owns, and which no other thread writes during the
- * call; nothing can check that. Nor that this header describes the library, which examples/run tries; nor the compiler.
+ * What is not proved:
+ *   - that pointer and length describe memory which the caller owns, and which no other thread writes during the call;
+ *   - that this header describes the library, which examples/run tries; nor the machine code that the compiler makes;
+ *   - the machine's stack: no contract says how much of it a call needs;
+ *   - 57 of the 684 rows of tables 28.1 and 28.2: they have not been held against paper, and for twelve of them the source
+ *     does not show the number (docs/TABLES.md lists all);
+ *   - that the definitions say what the Convention means (docs/DECISIONS.md has the readings). One is known to give less
+ *     freeboard than its text: excess sheer counts in full where the house amidships is low, and 38(16) would reduce it.
+ * A proved archive is known by what ./library prints beside it: the kit that proved it (rt version), the commit and the
+ * archive's SHA-256.
  *
  * Refusals. The order is the order of the checks: the first that applies is given. The place is 0 where none is named.
  * Calls: M loadline_marks, P loadline_shortest_poop, R loadline_read, W loadline_write.

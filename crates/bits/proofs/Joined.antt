@@ -38,13 +38,13 @@ module _ (s : List ℕ) (n m : ℕ) (h : n + m ≤ length s) where
   pub part-lt : Bytes s → number (take m (drop n s)) < 2 ^ (8 * m)
   part-lt b = subst (λ (k : ℕ). number (take m (drop n s)) < 2 ^ (8 * k)) part-length (number-lt (take m (drop n s)) (bytes-take m (drop n s) (bytes-drop n s b)))
 
-  -- stand below those before them
+  -- as a number they stand below the n bytes before them
   pub part-joined : number (take (n + m) s) ≡ number (take n s) * 2 ^ (8 * m) + number (take m (drop n s))
   part-joined =
       ap number (take-add n m s) ∙ number-append (take n s) (take m (drop n s))
       ∙ ap (λ (k : ℕ). number (take n s) * 2 ^ (8 * k) + number (take m (drop n s))) part-length
 
-  -- and so do their fields
+  -- and their fields stand behind the fields of those
   pub unpack-parts : Bytes s → (ws us : List ℕ) → total us ≡ 8 * m
       → unpack (ws ++ us) (number (take (n + m) s)) ≡ unpack ws (number (take n s)) ++ unpack us (number (take m (drop n s)))
   unpack-parts b ws us e =

@@ -1,3 +1,4 @@
 pub mod Radix
 pub mod Fill
 pub mod Joined
+pub mod Cut

@@ -21,7 +21,7 @@ unfolding pack unpack piece number bytes
 pack-lt [] [] f = omega arith
 pack-lt (w ∷ ws) (v ∷ vs) f = rw (pow-add 2 w (total ws)) (digits-lt (f .0) (pack-lt ws vs (f .1)))
 
--- what stands above the fields is not seen
+-- bits of a number above its fields do not count
 pub unpack-high : (ws : List ℕ) (j h n : ℕ) → unpack ws (h * 2 ^ (j + total ws) + n) ≡ unpack ws n
 unfolding pack unpack piece number bytes
 unpack-high [] j h n = refl

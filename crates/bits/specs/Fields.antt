@@ -4,7 +4,7 @@ use Prim.Native.Nat.{ℕ, _+_, _*_, _/_, _%_, _^_, _<_}
 use mathlib.Core.List.{List, [], _∷_}
 use lib.ListN.{length, replicate, getD}
 
--- the bits of all the fields
+-- how many bits the fields have together
 abbrev pub total : List ℕ → ℕ
 total [] = 0
 total (w ∷ ws) = w + total ws
@@ -15,7 +15,7 @@ pack [] vs = 0
 pack (w ∷ ws) [] = 0
 pack (w ∷ ws) (v ∷ vs) = v * 2 ^ total ws + pack ws vs
 
--- w bits of a number, before its last a
+-- the w bits of a number that stand before its last a bits
 unfoldable pub piece : ℕ → ℕ → ℕ → ℕ
 piece n a w = n / 2 ^ a % 2 ^ w
 

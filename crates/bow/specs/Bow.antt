@@ -42,7 +42,8 @@ higher L M cb cwf = ceil (whole (ceil (exactB1 L)) *f frac (b2Above L M cb cwf) 
 unfoldable pub lower : ℕ → ℕ → ℕ → ℕ → ℕ
 lower L M cb cwf = floor (whole (floor (exactB1 L)) *f frac (b2Below L M cb cwf) 1000000)
 
--- ---- 39(2): from it take the sheer at FP, signed, if the ordinate at L/6 from FP is above zero. It is lifted: the lift is given back by the same test
+-- ---- 39(2): from it take the sheer at FP, signed, if the ordinate at L/6 from FP is above zero. An ordinate has `lift` added to it: by the same test, that is
+-- given back
 unfoldable pub sheerTaken : ℕ → ℕ → ℕ
 sheerTaken sixth fp = pick (ltb lift sixth) (1000 * fp) 0
 

@@ -9,7 +9,7 @@ use units::LIFT;
 use units::Ordinate;
 use units::Span;
 
-// b1 in 5000000000ths of a um.
+// b1 in 5000000000ths of a um: so it is whole.
 fn cubic_of(l: Span) -> u64
     requires { ⌜ l .0 ≤ 365000 ⌝ }
     ensures { λ r. ⌜ frac r 5000000000 ≈f exactB1 (l .0) ⌝ }
@@ -19,7 +19,7 @@ fn cubic_of(l: Span) -> u64
     mm * (303750000000 + mm * mm - 937500 * mm)
 }
 
-// What b2 adds, in millionths over 170 M.
+// The terms that add to b2, in millionths and times 170 M: so they are whole.
 fn rise(m: Span, cb: u64) -> u64
     requires { ⌜ (1000 ≤ m .0) × (m .0 ≤ 60000) × (cb ≤ 12000) ⌝ }
     ensures { λ r. ⌜ frac r (170 * m .0) ≈f rises cb *f whole 1000000 ⌝ }
@@ -29,7 +29,7 @@ fn rise(m: Span, cb: u64) -> u64
     17 * depth * (20800000 + 609 * cb)
 }
 
-// What it takes away.
+// The terms that take from it, the same.
 fn fall(l: Span, m: Span, cwf: u64) -> u64
     requires { ⌜ (l .0 ≤ 365000) × (1000 ≤ m .0) × (m .0 ≤ 60000) × (cwf ≤ 10000) ⌝ }
     ensures { λ r. ⌜ frac r (170 * m .0) ≈f falls (l .0) (m .0) cwf *f whole 1000000 ⌝ }
@@ -40,7 +40,7 @@ fn fall(l: Span, m: Span, cwf: u64) -> u64
     17 * depth * (1603 * cwf) + 2580000 * length
 }
 
-// The height above zero, 0 if b2 is below.
+// The height that 39(1) asks for, and 0 where b2 is below zero.
 fn up(l: Span, m: Span, cb: u64, cwf: u64) -> Freeboard
     requires { ⌜ (l .0 ≤ 365000) × (1000 ≤ m .0) × (m .0 ≤ 60000) × (cb ≤ 12000) × (cwf ≤ 10000) ⌝ }
     ensures { λ r. ⌜ r .0 ≡ higher (l .0) (m .0) cb cwf ⌝ }
@@ -52,7 +52,7 @@ fn up(l: Span, m: Span, cb: u64, cwf: u64) -> Freeboard
     Freeboard(whole::mul_div_up(b1, b2, 1000000))
 }
 
-// Its size below zero, 0 if b2 is above.
+// Its size where b2 is below zero, and 0 where b2 is above.
 fn down(l: Span, m: Span, cb: u64, cwf: u64) -> Freeboard
     requires { ⌜ (l .0 ≤ 365000) × (1000 ≤ m .0) × (m .0 ≤ 60000) × (cb ≤ 12000) × (cwf ≤ 10000) ⌝ }
     ensures { λ r. ⌜ r .0 ≡ lower (l .0) (m .0) cb cwf ⌝ }
@@ -64,7 +64,8 @@ fn down(l: Span, m: Span, cb: u64, cwf: u64) -> Freeboard
     Freeboard(b1 * b2 / 1000000)
 }
 
-// The sheer at FP, or its lift, if the ordinate at L/6 from FP is above zero.
+// An ordinate at FP as a freeboard, if the ordinate at L/6 from FP is above zero; else 0. It is asked for twice: for the sheer at FP, which is taken with
+// the 8192 mm in it (LIFT), and for these alone, which are given back.
 fn sheer_taken(sixth: Ordinate, fp: Ordinate) -> Freeboard
     requires { ⌜ fp .0 < lift + lift ⌝ }
     ensures { λ r. ⌜ r .0 ≡ sheerTaken (sixth .0) (fp .0) ⌝ }
@@ -91,7 +92,7 @@ fn forecastle_taken(l: Span, length: Span, height: Span) -> Freeboard
     Freeboard(0)
 }
 
-// What adds to the height that the bow must have, and what takes from it before the forecastle does. Where sheer is taken, both have its lift.
+// The height that the bow must have, less the sheer at FP: what adds to it and what takes from it. Where sheer is taken, both have LIFT in them.
 pub struct Height {
     pub above: Freeboard,
     pub below: Freeboard,

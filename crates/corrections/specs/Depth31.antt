@@ -1,4 +1,4 @@
--- Regulation 31, deep ships: (D - L / 15) R mm, D and L in metres. D and L in mm make that um.
+-- Regulation 31, deep ships: (D - L / 15) R mm, D and L in metres. Here D and L are in mm, and the addition in um.
 use Prim.Native.Nat.{ℕ}
 use lib.Dec.{ltb}
 use Rattle.whole.specs.Pick.{pick}

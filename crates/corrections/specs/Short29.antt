@@ -1,4 +1,4 @@
--- Regulation 29, short type B ships: 7.5 (100 - L) (0.35 - E / L) mm, L and E in metres. L in mm and E in um make that um.
+-- Regulation 29, short type B ships: 7.5 (100 - L) (0.35 - E / L) mm, L and E in metres. Here L is in mm, and E and the addition in um.
 use mathlib.Core.Bool.{_&&_}
 use Prim.Native.Nat.{ℕ, _*_, _-_}
 use lib.Dec.{ltb}

@@ -30,7 +30,7 @@ pub fn with_house(l: Span, h: House, d: Deck) -> Deck
     ensures { λ r. ⌜ r ≡ deckWith (l .0) h d ⌝ }
 {
     let part = houses::part(l, h);
-    let effective = houses::effective_of(l, h);
+    let effective = effective::effective_of(l, h);
     let s = Span(part.0 + d.s.0);
     let sum = Effective(effective.0 + d.effective.0);
     let reach = houses::reach_of(l, h) + d.reach;
@@ -68,7 +68,7 @@ fn bare_deck(l: Span) -> Deck
     }
 }
 
-// The deck of the first `n` houses, set from the last on.
+// The deck of the first `n` houses, built from the foremost to the aftmost.
 pub fn deck_of(l: Span, hs: [House; 8], n: usize) -> Deck
     requires { ⌜ (l .0 ≤ 365000) × (n ≤ 8) × GoodHouses (l .0) (take n hs) ⌝ }
     ensures { λ r. ⌜ r ≡ deckOf (l .0) (take n hs) ⌝ }
@@ -84,7 +84,7 @@ pub fn deck_of(l: Span, hs: [House; 8], n: usize) -> Deck
     d
 }
 
-// E, of what a deck holds.
+// E: the sum of the effective lengths.
 pub fn effective_length(d: Deck) -> Effective
     ensures { λ r. ⌜ r .0 ≡ effectiveOn d ⌝ }
 {

@@ -1,4 +1,2 @@
-pub mod Filled
 pub mod Room
-pub mod Kept
 pub mod Theorems

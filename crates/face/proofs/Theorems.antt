@@ -1,29 +1,83 @@
--- Through the calls for C a record that was read is written back to its bytes; and no second answer meets a call's contract.
-use Prim.Native.Nat.{ℕ, _≤_}
-use mathlib.Core.List.{List, _++_}
-use mathlib.Core.Path.{_≡_, sym, ap, _∙_}
+-- Through the calls for C a ship that was written is read back, and a record that was read is written back to its bytes; beside a refusal the ship is all zeros;
+-- and no second answer meets a call's contract.
+use Prim.Native.Nat.{ℕ, _≤_, _<_}
+use mathlib.Core.List.{List, [], _∷_, _++_}
+use mathlib.Core.Path.{_≡_, refl, sym, ap, _∙_}
 use native.Mathlib.Omega.{arith}
-use lib.ListN.{length, drop}
+use borrow.Author.Tests.{ne-eqb}
+use lib.Dec.{ltb}
+use lib.ListN.{length, take, drop, length-map}
+use Rattle.whole.specs.Pick.{pick}
 use Rattle.bits.specs.Fields.{Bytes}
 use Rattle.ship.specs.declared.Ship.{Ship}
-use Rattle.ship.specs.Refusals.{accepted}
+use Rattle.ship.specs.Vessel.{clean}
+use Rattle.ship.specs.Refusals.{Paper, accepted, refused, first}
 use Rattle.ship.specs.Checks.{shipLines}
-use Rattle.ship.proofs.Lines.{all-pass, first-passed}
-use Rattle.record.specs.Layout.{shipIn}
+use Rattle.ship.specs.Good.{Good}
+use Rattle.ship.proofs.Lines.{AllPass, all-pass, all-pass-split, first-passed}
+use Rattle.ship.proofs.Accepted.{good}
+use Rattle.record.specs.Layout.{recordLength, shipIn}
 use Rattle.record.specs.Reading.{frameLines, readingIn}
-use Rattle.record.specs.Writing.{writingOf, written}
-use Rattle.roundtrip.proofs.Theorems.{write-what-was-read}
+use Rattle.record.specs.Writing.{writeLines, writingOf, written}
+use Rattle.record.proofs.RoundTrip as RoundTrip
+use Rattle.record.proofs.Theorems.{read-what-was-written, write-what-was-read}
 use Rattle.marks.specs.Marks.{sheetIn}
 use Rattle.poop.specs.Question.{replyIn}
-use Rattle.face.specs.declared.flat.FlatShip.{FlatShip}
-use Rattle.face.specs.declared.MarksAnswer.{MarksAnswer}
-use Rattle.face.specs.declared.PoopAnswer.{PoopAnswer}
-use Rattle.face.specs.declared.ReadAnswer.{ReadAnswer}
-use Rattle.face.specs.declared.WriteAnswer.{WriteAnswer}
-use Rattle.face.specs.Flat.{shipFrom}
-use Rattle.face.specs.Answers.{fromSheet, fromReply, fromReading, fromVerdict}
-use Rattle.face.proofs.Kept.{ship-back}
+use Rattle.flat.specs.declared.FlatShip.{FlatShip}
+use Rattle.flat.specs.Flat.{shipOf, ordinateFrom, houseFrom, shipFrom, flatClean, flatZero}
+use Rattle.flat.proofs.Kept.{ship-back}
+use Rattle.flat.proofs.Clean.{ship-cleaned, zero-flat}
+use Rattle.answers.specs.declared.MarksAnswer.{MarksAnswer}
+use Rattle.answers.specs.declared.PoopAnswer.{PoopAnswer}
+use Rattle.answers.specs.declared.ReadAnswer.{ReadAnswer}
+use Rattle.answers.specs.declared.WriteAnswer.{WriteAnswer}
+use Rattle.answers.specs.Answers.{fromSheet, fromReply, fromReading, fromVerdict}
 
+-- ---- what was written is read back
+-- a ship of the C type
+pub record Shaped (f : FlatShip) : Type 0 where
+  pub eight : length (f .houses) ≡ 8
+  pub six : length (f .sheer) ≡ 6
+
+shaped-from : (f : FlatShip) → Shaped f → RoundTrip.Shaped (shipFrom f)
+unfolding shipFrom
+shaped-from f p = record { eight = length-map (f .houses) houseFrom ∙ p .eight; six = length-map (f .sheer) ordinateFrom ∙ p .six }
+
+-- what an accepted write leaves in the buffer
+module _ (buf : List ℕ) (x : Ship) (shaped : RoundTrip.Shaped x) (z : writingOf (length buf) x .number ≡ 0) where
+  passed : AllPass (writeLines (length buf) x)
+  unfolding writingOf
+  passed = all-pass (writeLines (length buf) x) (omega arith) z
+
+  good-ship : Good x
+  good-ship = good x (ap (λ (p : Paper). p .number) (first-passed (shipLines x) (all-pass-split (shipLines x) ((ltb (length buf) (recordLength (x .n)), refused 17 0) ∷ []) (passed .1 .1) .0)))
+
+  wrote : writingOf (length buf) x ≡ accepted
+  unfolding writingOf
+  wrote = first-passed (writeLines (length buf) x) passed
+
+-- the ship is f, its flags as 0 or 1 and its places beyond n at zero
+pub read-back : (buf : List ℕ) (f : FlatShip) → Shaped f
+    → let x = shipFrom f in let p = writingOf (length buf) x in
+    (a : WriteAnswer) → a ≡ fromVerdict p x → a .refusal ≡ 0 → (after : List ℕ) → after ≡ written p x buf
+    → fromReading (readingIn (take (a .bytes) after)) ≡ record { refusal = 0; place = 0; ship = flatClean f }
+unfolding fromReading fromVerdict pick
+read-back buf f q a e z after t =
+    let x = shipFrom f in
+    let s = shaped-from f q in
+    let v : writingOf (length buf) x .number ≡ 0 = sym (ap (λ (r : WriteAnswer). r .refusal) e) ∙ z in
+    let n : a .bytes ≡ recordLength (x .n) = ap (λ (r : WriteAnswer). r .bytes) e ∙ rw v refl in
+    rw (n, t, read-what-was-written x s buf (wrote buf x s v), ship-cleaned f (q .six) (good-ship buf x s v)) refl
+
+-- ---- beside a refusal
+pub refused-zero : (s : List ℕ) (a : ReadAnswer) → a ≡ fromReading (readingIn s) → 0 < a .refusal → a .ship ≡ flatZero
+unfolding fromReading readingIn pick
+refused-zero s a e h =
+    let p = first (frameLines s ++ shipLines (shipIn s)) in
+    let n : 0 < p .number = omega (arith, ap (λ (r : ReadAnswer). r .refusal) e) in
+    ap (λ (r : ReadAnswer). r .ship) e ∙ ap shipOf (rw (ne-eqb (p .number) 0 (λ z. omega arith)) refl) ∙ zero-flat
+
+-- ---- what was read is written back
 -- a reading whose number is 0 is an accepted one
 read-whole : (s : List ℕ) → readingIn s .verdict .number ≡ 0 → readingIn s ≡ record { verdict = accepted; ship = readingIn s .ship }
 unfolding readingIn

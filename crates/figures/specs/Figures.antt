@@ -4,120 +4,144 @@ use mathlib.Core.Bool.{Bool, true, false, _&&_}
 use mathlib.Core.List.{List, [], _∷_, _++_, map}
 use lib.Dec.{eqb}
 use lib.IntN.{ℤ, pos, negsuc}
-use lib.ListN.{length, replicate}
+use lib.ListN.{replicate}
 use Rattle.whole.specs.Frac.{Frac}
 use Rattle.units.specs.declared.Ordinate.{Ordinate}
 use Rattle.units.specs.Datum.{stationOf, lift}
-use Rattle.tables.specs.Table37.{ordinaryRow}
 use Rattle.tables.specs.Table28.{table28A, table28B}
-use Rattle.tables.specs.Tabular.{tabular}
+use Rattle.tabular.specs.Tabular.{tabular}
+use Rattle.percentages.specs.Table37.{ordinaryRow}
 use Rattle.ship.specs.declared.House.{House}
 use Rattle.ship.specs.declared.Ship.{Ship}
-use Rattle.ship.specs.Vessel.{noHouse}
+use Rattle.record.specs.Layout.{headFields, headIn, houseFields, houseIn, houseAt, shipIn}
 use Rattle.houses.specs.Length.{coveredLength}
 use Rattle.houses.specs.Height.{standardHeight}
-use Rattle.houses.specs.Effective.{effectiveOf}
+use Rattle.houses.specs.Effective.{exactEffective, effectiveOf}
 use Rattle.houses.specs.Cover.{reach}
+use Rattle.corrections.specs.Fullness30.{counted}
 use Rattle.corrections.specs.Depth31.{depthAddition}
+use Rattle.deduction.specs.Deduction37.{deducted}
 use Rattle.sheer.specs.Sheer as Sheer
 use Rattle.bow.specs.Bow.{higher, lower}
-use Rattle.marks.specs.Steps.{addedTo, takenFrom, summerOf}
-use Rattle.marks.specs.Marks.{sheetFor}
-use Rattle.poop.specs.Poop.{withPoop}
-use Rattle.poop.specs.Question.{Reply, replyFor}
+use Rattle.mark.specs.Others.{Sheet}
+use Rattle.steps.specs.Steps.{typeB, effectiveE, forecastleHouse, addedTo, takenFrom, summerOf}
+use Rattle.marks.specs.Marks.{sheetIn}
+use Rattle.trial.specs.Poop.{withPoop}
+use Rattle.poop.specs.Question.{Reply, replyIn}
 
 pub record Row : Type 0 where
   pub figure : ℕ
-  pub given : ℤ
-  pub stated : ℤ
+  pub given : List ℤ
+  pub stated : List ℤ
 
-abbrev pub row : ℕ → ℕ → ℕ → Row
-row k given stated = record { figure = k; given = pos given; stated = pos stated }
+-- of numbers that are not below zero, and of one
+abbrev pub row : ℕ → List ℕ → List ℕ → Row
+row k given stated = record { figure = k; given = map pos given; stated = map pos stated }
 
--- ---- what the figures are about
+abbrev pub one : ℕ → ℕ → ℕ → Row
+one k given stated = row k (given ∷ []) (stated ∷ [])
+
+-- ---- k1 and k2: the bytes of their records, of which k2's is sample/k2.record. After the first two bytes, which have n, the heads are the same
+abbrev pub particulars : List ℕ
+particulars =
+    0x15 ∷ 0xf9 ∷ 0x01 ∷ 0x77 ∷ 0x01 ∷ 0x77 ∷ 0x06 ∷ 0xa4 ∷ 0x1f ∷ 0x40 ∷ 0x0f ∷ 0xa0 ∷ 0x1b ∷ 0xc0
+    ∷ 0x1c ∷ 0x00 ∷ 0xe0 ∷ 0x0d ∷ 0xe0 ∷ 0x7d ∷ 0x00 ∷ 0x00 ∷ 0x00 ∷ 0x00 ∷ 0x00 ∷ []
+
+unfoldable pub k1 : List ℕ
+k1 = 0x14 ∷ 0x00 ∷ particulars
+
+unfoldable pub k2 : List ℕ
+k2 = 0x14 ∷ 0x40 ∷ particulars ++ (0x82 ∷ 0x71 ∷ 0x00 ∷ 0x15 ∷ 0xf9 ∷ 0x03 ∷ 0xe8 ∷ 0x00 ∷ [])
+
+-- the fields of the head, in the record's order: version, type, n, spare, fields 1 to 13
+abbrev pub headRow : ℕ → List ℕ → ℕ → Row
+headRow k s n =
+    row k (headFields (headIn s))
+    (1 ∷ 1 ∷ n ∷ 0 ∷ 90000 ∷ 6000 ∷ 6000 ∷ 6800 ∷ 8000 ∷ 1000 ∷ 444 ∷ 112 ∷ 224 ∷ 888 ∷ 2000 ∷ 0 ∷ 0 ∷ [])
+
+-- ---- what is worked from a ship
+-- the freeboard before bow height, and the bow height (39)
+abbrev pub beforeBow : Ship → ℕ
+beforeBow x = addedTo x - takenFrom ordinaryRow x
+
+unfoldable pub bowHeight : ℕ → ℕ → ℕ → ℕ → ℕ
+bowHeight l m cb cwf = higher l m cb cwf - lower l m cb cwf
+
+abbrev pub bowHeightOf : Ship → ℕ
+bowHeightOf x = bowHeight (x .length .0) (x .moulded .0) (counted (x .block)) (x .waterplane)
+
+-- the houses' deduction (37)
+abbrev pub deductionOf : Ship → ℕ
+deductionOf x = deducted (typeB x) ordinaryRow (exactEffective (x .length .0) (forecastleHouse x)) (x .length .0) (effectiveE x)
+
+-- ---- what the two calls answer: the number and place of the refusal, both 0 where there is none; then the marks, or the length
+unfoldable pub marksRow : ℕ → Sheet → List ℕ → Row
+marksRow k a stated =
+    let m = a .marks in
+    record {
+      figure = k;
+      given =
+          pos (a .verdict .number) ∷ pos (a .verdict .place) ∷ pos (m .s) ∷ pos (m .t) ∷ pos (m .w) ∷ pos (m .wna) ∷ m .f ∷ m .tf ∷ [];
+      stated = map pos stated;
+    }
+
+unfoldable pub askedRow : ℕ → Reply → List ℕ → Row
+askedRow k a stated = row k (a .verdict .number ∷ a .verdict .place ∷ a .decimetres ∷ []) stated
+
+-- k3 to k6 ask of k2's record, with a poop of 1950 mm
+abbrev pub asked : ℕ → Reply
+asked wish = replyIn k2 1950 wish
+
+-- ---- what k9 to k12 are about
+-- a height as a fraction against a whole one: by the cross product, so that nothing is rounded
+abbrev pub heightRow : ℕ → Frac → ℕ → Row
+heightRow k x mm = one k (x .top) (mm * x .bot)
+
 -- an enclosed house, ends in mm forward of AP
 unfoldable pub house : ℕ → ℕ → ℕ → House
 house aft fore height =
     record { enclosed = true; quarterdeck = false; aft = record { 0 = stationOf aft }; fore = record { 0 = stationOf fore }; height = record { 0 = height } }
 
--- ordinates of so many mm
-abbrev pub ordinates : List ℕ → List Ordinate
-ordinates o = map (λ (mm : ℕ). record { 0 = lift + mm }) o
-
--- k1's ship, with houses
-unfoldable pub ship90 : List House → Ship
-ship90 hs = record {
-  kind = 1;
-  n = length hs;
-  length = record { 0 = 90000 };
-  depth = record { 0 = 6000 };
-  moulded = record { 0 = 6000 };
-  block = 6800;
-  waterplane = 8000;
-  sheer = ordinates (1000 ∷ 444 ∷ 112 ∷ 224 ∷ 888 ∷ 2000 ∷ []);
-  displacement = 0;
-  immersion = 0;
-  houses = hs ++ replicate (8 - length hs) noHouse;
-}
-
-unfoldable pub k1 : Ship
-k1 = ship90 []
-
-unfoldable pub k2 : Ship
-k2 = ship90 (house 80000 90000 2000 ∷ [])
-
--- the six marks of a ship against six stated numbers
-abbrev pub marksRows : ℕ → Ship → ℕ → ℕ → ℕ → ℕ → ℕ → ℕ → List Row
-marksRows k x s t w wna f tf =
-    let m = sheetFor x .marks in
-    row k (m .s) s ∷ row k (m .t) t ∷ row k (m .w) w ∷ row k (m .wna) wna
-    ∷ record { figure = k; given = m .f; stated = pos f } ∷ record { figure = k; given = m .tf; stated = pos tf } ∷ []
-
--- a height as a fraction against a whole one: by the cross product, so that nothing is rounded
-abbrev pub heightRow : ℕ → Frac → ℕ → Row
-heightRow k x mm = row k (x .top) (mm * x .bot)
-
--- k11's and k12's ordinates
+-- k11's ordinates are all 0, and k12's are k1's, doubled
 abbrev pub level : List Ordinate
-level = ordinates (0 ∷ 0 ∷ 0 ∷ 0 ∷ 0 ∷ 0 ∷ [])
+level = replicate 6 (record { 0 = lift })
 
 abbrev pub doubled : List Ordinate
-doubled = ordinates (2000 ∷ 888 ∷ 224 ∷ 448 ∷ 1776 ∷ 4000 ∷ [])
+doubled = map (λ (o : Ordinate). record { 0 = lift + 2 * (o .0 - lift) }) (shipIn k1 .sheer)
 
-abbrev pub amidships : List House
-amidships = house 36000 54000 2000 ∷ []
+-- what sheer (38) adds and deducts at L 90000, with houses
+abbrev pub sheerAdds : List Ordinate → List House → ℕ
+sheerAdds o hs = Sheer.added o 90000 (coveredLength 90000 hs)
 
--- k3 to k6 ask of k2's ship, with a poop of 1950 mm
-unfoldable pub asked : ℕ → Reply
-asked wish = replyFor k2 1950 wish
+abbrev pub sheerDeducts : List Ordinate → List House → ℕ
+sheerDeducts o hs = Sheer.deducted o 90000 (coveredLength 90000 hs) (reach 90000 hs)
 
--- the length, and the number of the refusal, which is 0 where there is none
-abbrev pub askedRows : ℕ → ℕ → ℕ → ℕ → List Row
-askedRows k wish decimetres number = row k (asked wish .decimetres) decimetres ∷ row k (asked wish .verdict .number) number ∷ []
-
--- ---- the table
+-- ---- the table. The question stands last: its search goes over 900 lengths, and a wrong row before it is found without them
 unfoldable pub figures : List Row
 figures =
-    row 1 (addedTo k1 - takenFrom ordinaryRow k1) 1101250
-    ∷ row 1 (higher 90000 6000 6800 8000 - lower 90000 6000 6800 8000) 4029337
-    ∷ marksRows 1 k1 2030 1948 2113 2163 1948 1866
-    ++ row 2 (takenFrom ordinaryRow k2) 69095
-    ∷ marksRows 2 k2 1024 921 1128 1178 921 818
-    ++ askedRows 3 1000 31 0
-    ++ row 3 (summerOf (withPoop 1950 30 k2)) 1001
-    ∷ askedRows 4 1024 0 0
-    ++ askedRows 5 187 800 0
-    ++ askedRows 6 50 0 16
-    ++ row 7 (tabular table28A 61500) 593500
-    ∷ row 7 (tabular table28B 61500) 594000
-    ∷ row 8 (depthAddition 100000 6666) 0
-    ∷ row 8 (depthAddition 100000 8000) 277778
+    headRow 1 k1 0
+    ∷ one 1 (beforeBow (shipIn k1)) 1101250
+    ∷ one 1 (bowHeightOf (shipIn k1)) 4029337
+    ∷ marksRow 1 (sheetIn k1) (0 ∷ 0 ∷ 2030 ∷ 1948 ∷ 2113 ∷ 2163 ∷ 1948 ∷ 1866 ∷ [])
+    ∷ headRow 2 k2 1
+    ∷ row 2 (houseFields (houseIn (houseAt k2 0))) (1 ∷ 0 ∷ 80000 ∷ 90000 ∷ 2000 ∷ 0 ∷ [])
+    ∷ one 2 (deductionOf (shipIn k2)) 69095
+    ∷ marksRow 2 (sheetIn k2) (0 ∷ 0 ∷ 1024 ∷ 921 ∷ 1128 ∷ 1178 ∷ 921 ∷ 818 ∷ [])
+    ∷ one 7 (tabular table28A 61500) 593500
+    ∷ one 7 (tabular table28B 61500) 594000
+    ∷ one 8 (depthAddition 100000 6666) 0
+    ∷ one 8 (depthAddition 100000 8000) 277778
     ∷ heightRow 9 (standardHeight 100000 false) 2050
     ∷ heightRow 9 (standardHeight 100000 true) 1500
-    ∷ row 10 (effectiveOf 100000 (house 0 10000 1000)) 4878048
-    ∷ row 11 (Sheer.added level 90000 0) 375188
-    ∷ row 12 (Sheer.deducted doubled 90000 0 0) 0
-    ∷ row 12 (Sheer.deducted doubled 90000 (coveredLength 90000 amidships) (reach 90000 amidships)) 112500
+    ∷ one 10 (effectiveOf 100000 (house 0 10000 1000)) 4878048
+    ∷ one 11 (sheerAdds level []) 375188
+    ∷ one 12 (sheerDeducts doubled []) 0
+    ∷ one 12 (sheerDeducts doubled (house 36000 54000 2000 ∷ [])) 112500
+    ∷ askedRow 3 (asked 1000) (0 ∷ 0 ∷ 31 ∷ [])
+    ∷ one 3 (summerOf (withPoop 1950 30 (shipIn k2))) 1001
+    ∷ askedRow 4 (asked 1024) (0 ∷ 0 ∷ 0 ∷ [])
+    ∷ askedRow 5 (asked 187) (0 ∷ 0 ∷ 800 ∷ [])
+    ∷ askedRow 6 (asked 50) (16 ∷ 0 ∷ 0 ∷ [])
     ∷ []
 
 -- ---- the test that all rows agree
@@ -127,6 +151,12 @@ same (pos m) (negsuc n) = false
 same (negsuc m) (pos n) = false
 same (negsuc m) (negsuc n) = eqb m n
 
+unfoldable pub agree : List ℤ → List ℤ → Bool
+agree [] [] = true
+agree [] (n ∷ ns) = false
+agree (m ∷ ms) [] = false
+agree (m ∷ ms) (n ∷ ns) = same m n && agree ms ns
+
 unfoldable pub allAgree : List Row → Bool
 allAgree [] = true
-allAgree (r ∷ rs) = same (r .given) (r .stated) && allAgree rs
+allAgree (r ∷ rs) = agree (r .given) (r .stated) && allAgree rs

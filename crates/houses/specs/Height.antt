@@ -1,10 +1,9 @@
 -- 33: standard heights, in mm, unrounded.
-use Prim.Native.Nat.{ℕ, _*_, _-_, _≤_}
+use Prim.Native.Nat.{ℕ, _*_, _-_}
 use mathlib.Core.Bool.{Bool}
 use lib.Dec.{leb, ltb}
 use Rattle.whole.specs.Pick.{pick}
 use Rattle.whole.specs.Frac.{Frac, whole, frac, _+f_}
-use Rattle.houses.specs.declared.Standard.{Standard}
 
 -- linear from v at L = a to w at L = b
 abbrev pub linear : ℕ → ℕ → ℕ → ℕ → ℕ → Frac
@@ -25,10 +24,3 @@ raisedHeight l =
 
 unfoldable pub standardHeight : ℕ → Bool → Frac
 standardHeight l quarterdeck = pick quarterdeck (raisedHeight l) (ordinaryHeight l)
-
--- a height of size / per mm, of numbers that leave room for products
-pub record Sized (s : Standard) : Type 0 where
-  pub size-least : 900 ≤ s .size
-  pub size-most : s .size ≤ 450000
-  pub per-least : 1 ≤ s .per
-  pub per-most : s .per ≤ 250

@@ -1,25 +1,15 @@
-// A house on the freeboard deck (33 to 35): its length, standard height and effective length; whether it is the forecastle; its reach in 38's cover
-// amidships. `deck` sums them.
+// A house on the freeboard deck: its length (34); whether it is the forecastle; its reach in 38's cover amidships. Its standard height and effective
+// length (33, 35) are worked in `effective`, by the definitions here. `deck` sums them.
 ghost use mathlib.Core.Path.{_≡_};
-ghost use Prim.Native.Nat.{_+_, _*_, _≤_};
-ghost use Rattle.whole.specs.Frac.{frac, _≈f_};
+ghost use Prim.Native.Nat.{_*_, _≤_};
 ghost use Rattle.ship.specs.Good.{GoodHouse};
 ghost use Rattle.houses.specs.Length.{partOf};
-ghost use Rattle.houses.specs.Height.{Sized, ordinaryHeight, raisedHeight, standardHeight};
-ghost use Rattle.houses.specs.Effective.{limitedLength, effectiveOf};
 ghost use Rattle.houses.specs.Forecastle.{isForecastle};
 ghost use Rattle.houses.specs.Cover.{reachOf};
 use ship::House;
-use units::Effective;
 use units::Span;
 use whole::less;
 use whole::lesser;
-
-// A standard height, size / per mm: unrounded.
-pub struct Standard {
-    pub size: u64,
-    pub per: u64,
-}
 
 // 34: a house's length, of which only the part between 0 and L counts.
 pub fn part(l: Span, h: House) -> Span
@@ -35,84 +25,6 @@ pub fn part(l: Span, h: House) -> Span
         return units::between(aft, fore);
     }
     Span(0)
-}
-
-// 33: the standard height of a house that is no raised quarterdeck.
-fn ordinary_height(l: u64) -> Standard
-    ensures { λ r. ⌜ frac (r .size) (r .per) ≈f ordinaryHeight l ⌝ }
-    ensures { λ r. ⌜ Sized r ⌝ }
-{
-    if l <= 75000 {
-        return Standard { size: 1800, per: 1 };
-    }
-    if l < 125000 {
-        return Standard {
-            size: l + 105000,
-            per: 100,
-        };
-    }
-    Standard { size: 2300, per: 1 }
-}
-
-// 33: the standard height of a raised quarterdeck.
-fn raised_height(l: u64) -> Standard
-    ensures { λ r. ⌜ frac (r .size) (r .per) ≈f raisedHeight l ⌝ }
-    ensures { λ r. ⌜ Sized r ⌝ }
-{
-    if l <= 30000 {
-        return Standard { size: 900, per: 1 };
-    }
-    if l <= 75000 {
-        return Standard {
-            size: l + 105000,
-            per: 150,
-        };
-    }
-    if l < 125000 {
-        return Standard {
-            size: 3 * l + 75000,
-            per: 250,
-        };
-    }
-    Standard { size: 1800, per: 1 }
-}
-
-// 33: the standard height of a house.
-fn standard_height(l: Span, quarterdeck: bool) -> Standard
-    ensures { λ r. ⌜ frac (r .size) (r .per) ≈f standardHeight (l .0) quarterdeck ⌝ }
-    ensures { λ r. ⌜ Sized r ⌝ }
-{
-    if quarterdeck {
-        return raised_height(l.0);
-    }
-    ordinary_height(l.0)
-}
-
-// 35: the length that counts in the effective length: a raised quarterdeck's is limited to 0.6 L.
-fn limited_length(l: Span, h: House) -> Effective
-    requires { ⌜ l .0 ≤ 365000 ⌝ }
-    ensures { λ r. ⌜ r .0 ≡ limitedLength (l .0) h ⌝ }
-    ensures { λ r. ⌜ r .0 ≤ 1000 * l .0 ⌝ }
-{
-    let mm = l.0;
-    let um = units::effective_of(part(l, h));
-    if h.quarterdeck {
-        return Effective(lesser(um.0, 600 * mm));
-    }
-    um
-}
-
-// 35: the effective length of a house, rounded down.
-pub fn effective_of(l: Span, h: House) -> Effective
-    requires { ⌜ (l .0 ≤ 365000) × (h .height .0 ≤ 8191) ⌝ }
-    ensures { λ r. ⌜ r .0 ≡ effectiveOf (l .0) h ⌝ }
-    ensures { λ r. ⌜ r .0 ≤ 1000 * l .0 ⌝ }
-{
-    let length = limited_length(l, h);
-    let standard = standard_height(l, h.quarterdeck);
-    let size = standard.size;
-    let height = lesser(h.height.0 * standard.per, size);
-    Effective(whole::mul_div_down(length.0, height, size))
 }
 
 // 38: a house's reach before and abaft amidships, in tenths of a mm.

@@ -1,6 +1,5 @@
 // Asks the shortest poop of each file that an argument names: eight bytes of height, eight of wish, then a record.
 // What must come is in `stdout`, made by `samples questions` of twin/, which shares no code with the crates.
-use libc::STDOUT_FILENO;
 use poop::Answer;
 
 fn ask(s: &[u8]) -> Answer {
@@ -13,14 +12,8 @@ fn ask(s: &[u8]) -> Answer {
 }
 
 fn one(i: usize) {
-    let mut path = io::buffer();
-    let length = os::arg(i, &mut path);
-    io::write_all(STDOUT_FILENO, &path[..length]);
-    show::text(b": ");
-    let fd = os::open_read(&path[..length]);
     let mut buf = [0u8; 144];
-    let n = io::read_full(fd, &mut buf);
-    libc::close(fd);
+    let n = files::named(i, &mut buf);
     let a = ask(&buf[..n]);
     match a {
         Answer::Poop(k) => {

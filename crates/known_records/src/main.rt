@@ -1,6 +1,5 @@
 // Reads each record that an argument names, prints its ship or its refusal, and writes an accepted ship back.
 // What must come is in `stdout`, made by `samples records` of twin/, which shares no code with the crates.
-use libc::STDOUT_FILENO;
 use ship::Ship;
 use ship::refusal::Verdict;
 
@@ -41,14 +40,8 @@ fn back(x: Ship, s: &[u8]) {
 }
 
 fn one(i: usize) {
-    let mut path = io::buffer();
-    let length = os::arg(i, &mut path);
-    io::write_all(STDOUT_FILENO, &path[..length]);
-    show::text(b": ");
-    let fd = os::open_read(&path[..length]);
     let mut buf = [0u8; 128];
-    let n = io::read_full(fd, &mut buf);
-    libc::close(fd);
+    let n = files::named(i, &mut buf);
     let a = reader::read(&buf[..n]);
     let v = a.verdict;
     match v {

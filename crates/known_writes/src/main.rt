@@ -94,14 +94,8 @@ fn put(x: Ship, out: &mut [u8]) {
 }
 
 fn one(i: usize) {
-    let mut path = io::buffer();
-    let length = os::arg(i, &mut path);
-    io::write_all(STDOUT_FILENO, &path[..length]);
-    show::text(b": ");
-    let fd = os::open_read(&path[..length]);
     let mut buf = [0u8; 448];
-    io::read_full(fd, &mut buf);
-    libc::close(fd);
+    files::named(i, &mut buf);
     let room = at(&buf, 0) as usize;
     let mut out = [0xA5u8; 128];
     if room <= 128 {

@@ -102,17 +102,18 @@ fn six_marks(p: Particulars, s: u64, d: u64, fresh: u64) -> Marks
     }
 }
 
-// All six from the summer mark s, or refusal 12 or 13.
+// All six from the summer mark s, or refusal 12 or 13. At a draught of 0 both can apply: 12 comes first.
 pub fn follow(p: Particulars, s: u64) -> Answer
     requires { ⌜ (p .floor ≤ 60000) × (p .depth .0 ≤ 60000) × (p .displacement < 1048576) ⌝ }
     ensures { λ r. ⌜ sheet r ≡ sheetAt p s ⌝ }
 {
     let depth = p.depth;
-    if units::is_at_keel(depth, s) {
-        return Answer::Refused(Refusal::NoDraught);
-    }
     let d = units::draught(depth, s);
     let fresh = allowance_of(p.displacement, p.immersion, d);
+    let at_keel = units::is_at_keel(depth, s);
+    if at_keel {
+        return Answer::Refused(Refusal::NoDraught);
+    }
     if d < fresh {
         return Answer::Refused(Refusal::FreshAllowance);
     }

@@ -1,4 +1,5 @@
-pub mod Parts
+pub mod Particulars
 pub mod Sheet
+pub mod Covered
 pub mod Demand
 pub mod OneToOne

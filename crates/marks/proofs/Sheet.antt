@@ -2,6 +2,9 @@
 use Prim.Native.Nat.{ℕ}
 use mathlib.Core.List.{List}
 use mathlib.Core.Path.{_≡_, ap, _∙_}
+use lib.Dec.{eqb}
+use borrow.Author.Tests.{ne-eqb}
+use Rattle.whole.proofs.Pick.{pick-false}
 use Rattle.ship.specs.declared.Ship.{Ship}
 use Rattle.ship.specs.declared.refusal.Refusal.{Refusal}
 use Rattle.ship.specs.Refusals.{Paper, Line, accepted, refused, numberOf, placeOf}
@@ -12,7 +15,7 @@ use Rattle.record.proofs.Framed.{read-is-good}
 use Rattle.record.proofs.Calls.{call-read, call-refused}
 use Rattle.mark.specs.declared.Marks.{Marks}
 use Rattle.mark.specs.Others.{Sheet, noMarks, sixMarks, markLines, sheetOf, sheetAt}
-use Rattle.marks.specs.Steps.{Sound, summerOf}
+use Rattle.steps.specs.Steps.{Sound, summerOf}
 use Rattle.marks.specs.Marks.{particularsOf, sheetFor, sheetIn}
 
 -- the call's answer by its verdict, and its own lines
@@ -36,3 +39,8 @@ unfolding sheetIn
 sheet-refused s r e =
     let v = refused (numberOf r) (placeOf r) in
     call-refused answer more s r e ∙ ap (λ (m : Marks). record { verdict = v; marks = m }) (beside-refusal r (sixMarks (particularsOf (shipIn s)) (summerOf (shipIn s))) noMarks)
+
+-- beside a refusal, whichever it is, all six marks are zero
+pub zero-beside-refusal : (s : List ℕ) → ¬ (sheetIn s .verdict .number ≡ 0) → sheetIn s .marks ≡ noMarks
+unfolding sheetIn
+zero-beside-refusal s n = pick-false (eqb (sheetIn s .verdict .number) 0) _ _ (ne-eqb _ 0 n)

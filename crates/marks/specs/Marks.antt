@@ -7,8 +7,12 @@ use Rattle.ship.specs.Checks.{shipLines}
 use Rattle.record.specs.Layout.{shipIn}
 use Rattle.record.specs.Reading.{frameLines}
 use Rattle.mark.specs.declared.Particulars.{Particulars}
+use Rattle.mark.specs.declared.Answer.{Answer}
+use Rattle.mark.specs.declared.Answer.the-variants.{Given, Refused}
+use Rattle.mark.specs.Summer.{Holds}
 use Rattle.mark.specs.Others.{Sheet, sheetOf, sheetAt, markLines, sixMarks}
-use Rattle.marks.specs.Steps.{basis, summerOf}
+use Rattle.steps.specs.Steps.{basis, summerOf}
+use Rattle.steps.specs.Exact.{exactSummerOf}
 
 -- what the other marks need of the ship besides S
 unfoldable pub particularsOf : Ship → Particulars
@@ -23,3 +27,8 @@ unfoldable pub sheetIn : List ℕ → Sheet
 sheetIn s =
     sheetOf (first (frameLines s ++ shipLines (shipIn s) ++ markLines (particularsOf (shipIn s)) (summerOf (shipIn s))))
     (sixMarks (particularsOf (shipIn s)) (summerOf (shipIn s)))
+
+-- where marks are given, S is never below the exact value, and less than 1.1 mm above it
+abbrev pub Bounded : Answer → Ship → Type 0
+Bounded (Given m) x = Holds (m .s) (exactSummerOf x)
+Bounded (Refused r) x = Unit {0}

@@ -2,29 +2,23 @@
 ghost use mathlib.Core.Path.{_≡_};
 ghost use Rattle.record.specs.Layout.{shipIn};
 ghost use Rattle.mark.specs.Others.{sheet};
-ghost use Rattle.marks.specs.Steps.{Sound};
-ghost use Rattle.marks.specs.Exact.{Bounded};
-ghost use Rattle.marks.specs.Parts.{hullOf};
-ghost use Rattle.marks.specs.Marks.{particularsOf, sheetFor, sheetIn};
-use crate::hull::Hull;
+ghost use Rattle.steps.specs.Steps.{Sound, basis};
+ghost use Rattle.marks.specs.Marks.{particularsOf, sheetFor, sheetIn, Bounded};
+use hull::summer;
 use mark::Answer;
 use mark::Particulars;
 use ship::Ship;
 use ship::refusal::Verdict;
 
-pub mod hull;
-pub mod steps;
-
-// What the other marks need of a ship, of which the floor is its hull's.
-pub fn particulars_of(x: Ship, h: Hull) -> Particulars
-    requires { ⌜ h ≡ hullOf x ⌝ }
+// What the other marks need of a ship. The floor is the least freeboard that its type decides.
+pub fn particulars_of(x: Ship, floor: u64) -> Particulars
+    requires { ⌜ floor ≡ basis x .floor ⌝ }
     ensures { λ r. ⌜ r ≡ particularsOf x ⌝ }
 {
-    let basis = h.basis;
     let depth = x.depth;
     let length = x.length;
     Particulars {
-        floor: basis.floor,
+        floor,
         depth,
         length,
         displacement: x.displacement,
@@ -41,8 +35,8 @@ pub fn of_ship(x: Ship) -> Answer
     let hs = x.houses;
     let h = hull::hull_of(x);
     let d = deck::deck_of(x.length, hs, x.n);
-    let s = steps::summer_on(h, d);
-    mark::follow(particulars_of(x, h), s)
+    let s = summer::summer_on(h, d);
+    mark::follow(particulars_of(x, h.basis.floor), s)
 }
 
 // The marks of any bytes.

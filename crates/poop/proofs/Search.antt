@@ -4,8 +4,13 @@ use mathlib.Core.Bool.{Bool, true, false, true≢false}
 use mathlib.Core.Path.{_≡_, refl, sym, ap, ap₂, _∙_}
 use native.Mathlib.Decide.{decLt}
 use native.Mathlib.Omega.{arith}
+use lib.ListN.{length}
 use Rattle.ship.specs.declared.Ship.{Ship}
-use Rattle.poop.specs.Poop.{fitsAt}
+use Rattle.steps.specs.Steps.{Sound}
+use Rattle.trial.specs.declared.Standing.{Standing}
+use Rattle.trial.specs.Poop.{fitsAt}
+use Rattle.trial.specs.Standing.{standingOf, fitsOn}
+use Rattle.trial.proofs.Trial.{fits-same}
 use Rattle.poop.specs.Question.{Reply, given, noLength, shortestFrom, shortestFor, Shortest, fitting, none}
 
 module _ (fits : ℕ → Bool) where
@@ -70,3 +75,12 @@ module _ (x : Ship) (height wish : ℕ) where
 
   pub only-shortest : (r : Reply) → Shortest (fitsAt x height wish) (x .length .0) r → r ≡ shortestFor x height wish
   only-shortest r f = one-shortest (fitsAt x height wish) (x .length .0) r (shortestFor x height wish) f is-shortest
+
+-- ---- the search that tries each length by what was worked once is the search
+pub searched : (x : Ship) → Sound x → x .n < 8 → length (x .houses) ≡ 8 → (height wish : ℕ) → 1 ≤ height → height ≤ 8191
+    → (q : Standing) → q ≡ standingOf x height wish → shortestFrom (fitsOn q) (x .length .0 / 100 + 1) 0 ≡ shortestFor x height wish
+unfolding shortestFor
+searched x s few eight height wish least most q e =
+    ap (λ (p : Standing). shortestFrom (fitsOn p) (x .length .0 / 100 + 1) 0) e
+    ∙ same-search (fitsOn (standingOf x height wish)) (fitsAt x height wish) (x .length .0) (x .length .0 / 100 + 1) 0 (omega arith)
+    (fits-same x s few eight height wish least most)

@@ -16,10 +16,10 @@ use Rattle.ship.proofs.Lines.{AllPass, all-pass-split, first-skip}
 use Rattle.record.specs.Layout.{shipIn}
 use Rattle.record.specs.Reading.{frameLines, readingIn}
 use Rattle.record.proofs.Framed.{passes-all, ship-is}
-use Rattle.marks.specs.Steps.{summerOf}
+use Rattle.steps.specs.Steps.{summerOf}
 use Rattle.mark.specs.Others.{markLines}
 use Rattle.marks.specs.Marks.{particularsOf}
-use Rattle.poop.specs.Poop.{poopHouse, withFirst, withPoop, within, marksWithin, fitsAt}
+use Rattle.trial.specs.Poop.{poopHouse, withFirst, withPoop, within, marksWithin, fitsAt}
 use Rattle.poop.specs.Question.{Reply, refusing, noLength, Shortest, fitting, none, askLines, replyOf, shortestFor, replyIn}
 use Rattle.poop.proofs.Search.{is-shortest, one-shortest}
 
@@ -55,9 +55,13 @@ module _ (fits : ℕ → Bool) (L : ℕ) where
   of-given r (fitting k m e f) z = (m, e, f)
   of-given r (none f) z = absurd (omega arith)
 
-  of-none : (r : Reply) → Shortest fits L r → r .verdict .number ≡ 16 → (j : ℕ) → 100 * j ≤ L → fits j ≡ false
+  pub of-none : (r : Reply) → Shortest fits L r → r .verdict .number ≡ 16 → (j : ℕ) → 100 * j ≤ L → fits j ≡ false
   of-none r (fitting k m e f) z = absurd (omega arith)
   of-none r (none f) z = f
+
+  beside : (r : Reply) → Shortest fits L r → ¬ (r .verdict .number ≡ 0) → r .decimetres ≡ 0
+  beside r (fitting k m e f) n = absurd (n refl)
+  beside r (none f) n = refl
 
 module _ (s : List ℕ) (height wish : ℕ) where
   abbrev x : Ship
@@ -93,6 +97,15 @@ module _ (s : List ℕ) (height wish : ℕ) where
   unfolding replyIn pick
   one-length e r f =
       rw e (one-shortest (fitsAt x height wish) (x .length .0) r (shortestFor x height wish) f (is-shortest x height wish))
+
+  -- beside a refusal, whichever it is, the length is zero
+  pub zero-beside-refusal : ¬ (replyIn s height wish .verdict .number ≡ 0) → replyIn s height wish .decimetres ≡ 0
+  unfolding replyIn pick
+  zero-beside-refusal = go (eqb (first lines .number) 0)
+    where
+      go : (b : Bool) → let r = pick b (shortestFor x height wish) (refusing (first lines)) in ¬ (r .verdict .number ≡ 0) → r .decimetres ≡ 0
+      go true n = beside (fitsAt x height wish) (x .length .0) (shortestFor x height wish) (is-shortest x height wish) n
+      go false n = refl
 
 -- ---- a k fits by 9 to 13: 7 and 8 pass on the ship with the poop as on the ship without
 fields-either : (x : Ship) (h : House) (b : Bool) → AllPass (fieldLines x) → AllPass (fieldLines (pick b x (withFirst h x)))

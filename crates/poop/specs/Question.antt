@@ -14,7 +14,7 @@ use Rattle.record.specs.Layout.{shipIn}
 use Rattle.record.specs.Reading.{frameLines}
 use Rattle.poop.specs.declared.Answer.{Answer}
 use Rattle.poop.specs.declared.Answer.the-variants.{Poop, Refused}
-use Rattle.poop.specs.Poop.{fitsAt}
+use Rattle.trial.specs.Poop.{fitsAt}
 
 -- an answer in 01's own terms: number 0 refuses nothing; beside a refusal the length is zero
 pub record Reply : Type 0 where

@@ -1,14 +1,12 @@
 // The shortest-poop question: on a ship, or on any bytes as a ship record, with refusals 1 to 11, then 14 to 16.
 ghost use mathlib.Core.Path.{_≡_};
 ghost use Prim.Native.Nat.{_≤_, _<_};
-ghost use Rattle.marks.specs.Steps.{Sound};
+ghost use Rattle.steps.specs.Steps.{Sound};
 ghost use Rattle.poop.specs.Question.{reply, noRoom, shortestFor, replyFor, replyIn};
 use ship::Ship;
 use ship::refusal::Refusal;
 use ship::refusal::Verdict;
 use units::Span;
-
-pub mod trial;
 
 // The shortest poop in decimetres, or what is refused.
 pub enum Answer {

@@ -1,3 +1,3 @@
-pub mod Places
 pub mod Frame
 pub mod Told
+pub mod OneAnswer

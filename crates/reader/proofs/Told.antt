@@ -11,10 +11,10 @@ use Rattle.reader.specs.declared.Answer.{Answer}
 use Rattle.reader.specs.Answer.{shown}
 
 module _ (s : List ℕ) (a : Answer) (e : shown a ≡ readingIn s) where
-  -- they read as its ship
+  -- accepted: they read as its ship
   pub read-as : a .verdict ≡ Accepted → readingIn s ≡ record { verdict = accepted; ship = a .ship }
   read-as t = sym e ∙ ap (λ (v : Verdict). record { verdict = paper v; ship = a .ship }) t
 
-  -- they are refused so
+  -- refused: they have its refusal
   pub read-refused : (r : Refusal) → a .verdict ≡ Refused r → readingIn s .verdict ≡ refused (numberOf r) (placeOf r)
   read-refused r t = sym (ap (λ (z : Reading). z .verdict) e) ∙ ap paper t

@@ -2,90 +2,23 @@
 ghost use mathlib.Core.Path.{_≡_};
 ghost use Prim.Native.Nat.{_≤_};
 ghost use lib.ListN.{length};
-ghost use Rattle.bits.specs.Fields.{unpack};
 ghost use Rattle.ship.specs.Refusals.{paper, first, accepted, refused, numberOf, placeOf};
 ghost use Rattle.ship.specs.Vessel.{noShip};
 ghost use Rattle.ship.specs.Checks.{shipLines};
-ghost use Rattle.record.specs.Layout.{recordLength, houseWidths, houseOf, headIn, placesIn, shipOf};
-ghost use Rattle.record.specs.Reading.{sparesIn, headLines, readingOf, readingIn};
+ghost use Rattle.record.specs.Layout.{headIn, shipOf};
+ghost use Rattle.record.specs.Reading.{headLines, readingOf, readingIn};
 ghost use Rattle.reader.specs.Answer.{shown};
 use record::HEAD_BYTES;
-use record::HOUSE_BYTES;
 use record::Head;
-use record::after;
-use record::range;
 use ship::House;
 use ship::Ship;
-use ship::checks;
 use ship::refusal::Refusal;
 use ship::refusal::Verdict;
-use units::Span;
 
 // A ship, or the refusal with a ship of zeros beside it.
 pub struct Answer {
     pub verdict: Verdict,
     pub ship: Ship,
-}
-
-// Checks 2 to 5 on the head of a record of so many bytes.
-fn check_head(h: Head, bytes: usize) -> Verdict
-    ensures { λ v. ⌜ paper v ≡ first (headLines h bytes) ⌝ }
-{
-    if h.version != record::VERSION {
-        return Verdict::Refused(Refusal::Version);
-    }
-    if h.kind > 1 {
-        return Verdict::Refused(Refusal::ShipType);
-    }
-    if h.count > 8 {
-        return Verdict::Refused(Refusal::HouseCount);
-    }
-    let n = h.count as usize;
-    if bytes != HEAD_BYTES + HOUSE_BYTES * n {
-        return Verdict::Refused(Refusal::RecordLength);
-    }
-    Verdict::Accepted
-}
-
-// The house whose eight bytes are a word.
-fn house_of(word: u64) -> House
-    ensures { λ r. ⌜ r ≡ houseOf (unpack houseWidths word) ⌝ }
-{
-    let aft = record::station_in(word >> after::AFT);
-    let fore = record::station_in(word >> after::FORE);
-    House {
-        enclosed: (word >> after::ENCLOSED) % range::FLAG == 1,
-        quarterdeck: (word >> after::QUARTERDECK) % range::FLAG == 1,
-        aft,
-        fore,
-        height: Span((word >> after::HEIGHT) % range::HEIGHT),
-    }
-}
-
-// The eight places of a record, and the spare bits of all its houses added up.
-struct Houses {
-    places: [House; 8],
-    spare: u64,
-}
-
-fn houses_in(s: &[u8], n: usize) -> Houses
-    requires { ⌜ (n ≤ 8) × (recordLength n ≤ length (now s)) ⌝ }
-    ensures { λ r. ⌜ (r .places ≡ placesIn n (now (s .entry))) × (r .spare ≡ sparesIn (now (s .entry)) n) × (r .spare ≤ 1024) ⌝ }
-{
-    let none = ship::no_house();
-    let mut places = [none; 8];
-    let mut spare = 0;
-    let mut k = 0;
-    while k < n {
-        let a = HEAD_BYTES + HOUSE_BYTES * k;
-        let e = a + HOUSE_BYTES;
-        let word = bits::word(&s[a..e]);
-        let h = house_of(word);
-        places[k] = h;
-        spare += word % range::HOUSE_SPARE;
-        k += 1;
-    }
-    Houses { places, spare }
 }
 
 // The ship of a head and of its houses.
@@ -134,7 +67,13 @@ fn judge(x: Ship) -> Answer
             verdict: Verdict::Accepted,
             ship: x,
         },
-        Verdict::Refused(r) => refuse(r),
+        Verdict::Refused(r) => {
+            let none = ship::no_ship();
+            Answer {
+                verdict: Verdict::Refused(r),
+                ship: none,
+            }
+        }
     }
 }
 
@@ -143,7 +82,7 @@ fn read_ship(s: &[u8], h: Head) -> Answer
     requires { ⌜ (h ≡ headIn (now s)) × (27 ≤ length (now s)) × (first (headLines h (length (now s))) ≡ accepted) ⌝ }
     ensures { λ r. ⌜ shown r ≡ readingIn (now (s .entry)) ⌝ }
 {
-    let all = houses_in(s, h.count as usize);
+    let all = house_bytes::houses_in(s, h.count as usize);
     if h.spare + all.spare != 0 {
         return refuse(Refusal::SpareBit);
     }
@@ -158,8 +97,8 @@ pub fn read(s: &[u8]) -> Answer
     if s.len() < HEAD_BYTES {
         return refuse(Refusal::ShortRecord);
     }
-    let h = head::read(s);
-    let v = check_head(h, s.len());
+    let h = head_reader::read(s);
+    let v = head_reader::check_head(h, s.len());
     match v {
         Verdict::Accepted => read_ship(s, h),
         Verdict::Refused(r) => refuse(r),

@@ -35,10 +35,10 @@ frame-passed s p = record {
   type = ltb-false 1 (headIn s .kind) (p .1 .1 .0);
   few = ltb-false 8 (headIn s .count) (p .1 .1 .1 .0);
   exact = eqb-true (length s) (recordLength (headIn s .count)) (not-false (eqb (length s) (recordLength (headIn s .count))) (p .1 .1 .1 .1 .0));
-  blank = eqb-true (headIn s .spare + sparesIn s (headIn s .count)) 0 (not-false (eqb (headIn s .spare + sparesIn s (headIn s .count)) 0) (p .1 .1 .1 .1 .1 .0));
+  blank = eqb-true _ 0 (not-false _ (p .1 .1 .1 .1 .1 .0));
 }
 
--- and back
+-- such bytes pass checks 1 to 6
 pub frame-passes : (s : List ℕ) → Framed s → first (frameLines s) ≡ accepted
 frame-passes s f =
     first-passed (frameLines s) (

@@ -1,5 +1,9 @@
 pub mod Complement
 pub mod Parts
+pub mod Signed
 pub mod Framed
 pub mod Calls
 pub mod Written
+pub mod House
+pub mod RoundTrip
+pub mod Theorems

@@ -1,7 +1,6 @@
 -- What the writer's verdict is once type and count are right, and what an accepted ship gives the parts that write it.
 use Prim.Native.Nat.{ℕ, _≤_, _<_}
-use mathlib.Core.List.{List, [], _∷_, _++_}
-use lib.ListN.{drop}
+use mathlib.Core.List.{List, [], _∷_}
 use mathlib.Core.Path.{_≡_, refl, _∙_}
 use lib.Dec.{eqb, ltb}
 use borrow.Author.Tests.{le-ltb, lt-ltb}
@@ -15,7 +14,7 @@ use Rattle.ship.specs.Refusals.{accepted, refused, numberOf, placeOf, first}
 use Rattle.ship.specs.Checks.{shipLines}
 use Rattle.ship.specs.Good.{Good}
 use Rattle.ship.proofs.Lines.{first-append, beside-refusal}
-use Rattle.record.specs.Layout.{recordLength, recordBytes, headWidths, headFields, shipHead, Low}
+use Rattle.record.specs.Layout.{recordLength, headWidths, headFields, shipHead, Low}
 use Rattle.record.specs.Writing.{writingOf, written}
 
 -- the ship's own checks, then the room
@@ -41,7 +40,7 @@ module _ (room : ℕ) (x : Ship) (k : x .kind ≤ 1) (n : x .n ≤ 8) where
 -- a refusal changes nothing
 pub written-refused : (r : Refusal) (x : Ship) (b : List ℕ) → written (refused (numberOf r) (placeOf r)) x b ≡ b
 unfolding written
-written-refused r x b = beside-refusal r (recordBytes x ++ drop (recordLength (x .n)) b) b
+written-refused r x b = beside-refusal r _ b
 
 pub head-fits : (x : Ship) → x .kind ≤ 1 → x .n ≤ 8 → Good x → Fit headWidths (headFields (shipHead x))
 head-fits x k n g = omega arith

@@ -26,7 +26,18 @@ houseWidths = 1 ∷ 1 ∷ 21 ∷ 21 ∷ 13 ∷ 7 ∷ []
 abbrev pub recordLength : ℕ → ℕ
 recordLength n = 27 + 8 * n
 
--- two's complement as a number counted from the lowest: the two halves of the range change places; and back
+-- the only version; the last of the types, A is 0 and B is 1; the most houses
+abbrev pub onlyVersion : ℕ
+onlyVersion = 1
+
+abbrev pub lastType : ℕ
+lastType = 1
+
+abbrev pub mostHouses : ℕ
+mostHouses = 8
+
+-- a field in two's complement, as its signed number plus half the range, which is never below zero: 0 becomes half, and -half becomes 0.
+-- The same turn leads back (proofs/Complement.antt), and proofs/Signed.antt has it in signed numbers
 abbrev pub turn : ℕ → ℕ → ℕ
 turn half u = (u % (2 * half) + half) % (2 * half)
 
@@ -122,7 +133,7 @@ headIn s = headOf (unpack headWidths (number (take 27 s)))
 -- the head of a ship's record
 abbrev pub shipHead : Ship → Head
 shipHead x = record {
-  version = 1;
+  version = onlyVersion;
   kind = x .kind;
   count = x .n;
   spare = 0;

@@ -10,7 +10,7 @@ use Rattle.ship.specs.Vessel.{noShip}
 use Rattle.ship.specs.Refusals.{Paper, Line, refused, first}
 use Rattle.ship.specs.Checks.{shipLines}
 use Rattle.record.specs.declared.Head.{Head}
-use Rattle.record.specs.Layout.{recordLength, headIn, spareIn, houseAt, shipIn}
+use Rattle.record.specs.Layout.{recordLength, onlyVersion, lastType, mostHouses, headIn, spareIn, houseAt, shipIn}
 
 -- the spare bits of the first k houses, added up: 0 where none is set
 unfoldable pub sparesIn : List ℕ → ℕ → ℕ
@@ -20,9 +20,9 @@ sparesIn s (suc k) = sparesIn s k + spareIn (houseAt s k)
 -- 2 to 5: what the head of a record of so many bytes shows
 abbrev pub headLines : Head → ℕ → List Line
 headLines h bytes =
-    (not (eqb (h .version) 1), refused 2 0)
-    ∷ (ltb 1 (h .kind), refused 3 0)
-    ∷ (ltb 8 (h .count), refused 4 0)
+    (not (eqb (h .version) onlyVersion), refused 2 0)
+    ∷ (ltb lastType (h .kind), refused 3 0)
+    ∷ (ltb mostHouses (h .count), refused 4 0)
     ∷ (not (eqb bytes (recordLength (h .count))), refused 5 0)
     ∷ []
 

@@ -7,12 +7,12 @@ use Rattle.whole.specs.Pick.{pick}
 use Rattle.ship.specs.declared.Ship.{Ship}
 use Rattle.ship.specs.Refusals.{Paper, Line, refused, first}
 use Rattle.ship.specs.Checks.{shipLines}
-use Rattle.record.specs.Layout.{recordLength, recordBytes}
+use Rattle.record.specs.Layout.{recordLength, lastType, mostHouses, recordBytes}
 
 abbrev pub writeLines : ℕ → Ship → List Line
 writeLines room x =
-    (ltb 1 (x .kind), refused 3 0)
-    ∷ (ltb 8 (x .n), refused 4 0)
+    (ltb lastType (x .kind), refused 3 0)
+    ∷ (ltb mostHouses (x .n), refused 4 0)
     ∷ shipLines x
     ++ ((ltb room (recordLength (x .n)), refused 17 0) ∷ [])
 

@@ -1,4 +1,4 @@
-// How many bits of its word stand after a field.
+// The code takes a record in words of at most eight bytes: how many bits of its word stand after a field.
 use crate::width;
 
 // ---- bytes 0 to 7: version, type, houses n, spare, L, D, the first bits of M

@@ -18,8 +18,12 @@ pub const HEAD_BYTES: usize = 27;
 
 pub const HOUSE_BYTES: usize = 8;
 
-// The only version.
+// The only version; the last of the types, A is 0 and B is 1; the most houses.
 pub const VERSION: u64 = 1;
+
+pub const LAST_TYPE: u64 = 1;
+
+pub const MOST_HOUSES: u64 = 8;
 
 // What the head says, in the record's order.
 pub struct Head {
@@ -41,8 +45,8 @@ pub struct Head {
 }
 
 // ---- signed fields
-// Two's complement counts from 0 up and wraps to the negative half; stations and ordinates count from the lowest negative up.
-// So the two halves of the range change places, and change back the same way.
+// The record holds signed millimetres in two's complement. The code holds them plus half the range, so that none is below zero:
+// 0 mm is 0 in the record and `half` here. From one to the other the two halves of the range change places, and so they do on the way back.
 fn turned(half: u64, u: u64) -> u64
     requires { ⌜ (1 ≤ half) × (half ≤ datum) ⌝ }
     ensures { λ r. ⌜ (r ≡ turn half u) × (r < 2 * half) ⌝ }

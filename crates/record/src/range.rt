@@ -1,4 +1,4 @@
-// How many values the bits of a field have.
+// How many values a field can have: two to the power of its bits.
 use crate::width;
 
 // ---- the head

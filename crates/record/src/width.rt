@@ -1,4 +1,4 @@
-// Document 01's table of the record: how many bits each field has. M has 16; they stand in two words, and so in two parts.
+// Document 01's table of the record: how many bits each field has.
 // ---- the head
 pub const VERSION: u64 = 4;
 
@@ -12,7 +12,7 @@ pub const LENGTH: u64 = 20;
 
 pub const DEPTH: u64 = 16;
 
-// M stands across the end of a word: its first bits in one, its last in the next.
+// M has 16 bits. The code takes the head in words of at most eight bytes, and a word ends within M: 12 bits stand in it, 4 in the next.
 pub const MOULDED_FIRST: u64 = 12;
 
 pub const MOULDED_LAST: u64 = 4;

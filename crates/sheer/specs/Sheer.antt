@@ -11,14 +11,14 @@ use Rattle.units.specs.Datum.{lift, sheerAt}
 abbrev pub weighted : ℕ → ℕ → ℕ → ℕ
 weighted perpendicular sixth third = perpendicular + 3 * sixth + 3 * third
 
--- the actual sums: their lift is that of one ordinate times the multipliers, 1 + 3 + 3
+-- the actual sums. An ordinate has `lift` added to it, so these have 7 times that, by the multipliers 1 + 3 + 3
 unfoldable pub afterSum : List Ordinate → ℕ
 afterSum o = weighted (sheerAt o 0) (sheerAt o 1) (sheerAt o 2)
 
 unfoldable pub forwardSum : List Ordinate → ℕ
 forwardSum o = weighted (sheerAt o 5) (sheerAt o 4) (sheerAt o 3)
 
--- any other sum, lifted so
+-- the same added to any other sum, to compare it with them
 abbrev pub lifted : Frac → Frac
 lifted x = whole (7 * lift) +f x
 

@@ -1,22 +1,17 @@
-// Sheer (regulation 38): what it adds to the freeboard and what it deducts, one of them 0.
+// Sheer (regulation 38): the mean of both halves, which no house changes. What it adds to the freeboard and what it deducts is worked in
+// `sheer_correction`, by the definitions here.
 ghost use mathlib.Core.Path.{_≡_};
 ghost use Prim.Native.Nat.{_+_, _*_, _≤_, _<_};
 ghost use Rattle.whole.specs.Frac.{_≈f_, frac};
 ghost use Rattle.units.specs.Datum.{lift, Lifted};
-ghost use Rattle.sheer.specs.Sheer.{weighted, standardAfter, afterCounts, forwardShare, meanAbove, meanLacks, excess, deficiency, addition, deduction, afterSum, forwardSum};
+ghost use Rattle.sheer.specs.Sheer.{weighted, standardAfter, afterCounts, forwardShare, meanAbove, meanLacks, excess, deficiency, afterSum, forwardSum};
 use units::Freeboard;
 use units::LIFT;
 use units::Ordinate;
 use units::Span;
 
-// Sums are in 30000ths of a millimetre, where the standard is whole. A half's lift is that of an ordinate times its multipliers, 1 + 3 + 3:
+// An ordinate has LIFT added to it, and a half adds up 1 + 3 + 3 of them. Sums are in 30000ths of a millimetre, in which the standard is whole.
 const LIFT7: u64 = 30000 * (7 * LIFT);
-
-// The correction in its two parts.
-pub struct Correction {
-    pub added: Freeboard,
-    pub deducted: Freeboard,
-}
 
 // The mean of both halves, in two parts of which one is 0.
 pub struct Mean {
@@ -36,7 +31,7 @@ fn half(perpendicular: Ordinate, sixth: Ordinate, third: Ordinate) -> u64
     p + 3 * s + 3 * t
 }
 
-// What of a forward excess counts, over the after half's standard w.
+// The part of a forward excess that counts, by the after half's sum: so many of w, the after half's standard.
 fn share(a: u64, l: Span) -> u64
     requires { ⌜ (a ≤ 14 * lift) × (l .0 ≤ 365000) ⌝ }
     ensures { λ r. ⌜ frac r (667 * (l .0 + 30000)) ≈f forwardShare a (standardAfter (l .0)) ⌝ }
@@ -47,7 +42,7 @@ fn share(a: u64, l: Span) -> u64
     whole::lesser(w, whole::less(120000 * a, 4 * LIFT7 + 2 * w))
 }
 
-// What of an after excess counts.
+// What of an after excess counts, in 240ths of a um: none where the forward half lacks sheer.
 fn after(a: u64, f: u64, l: Span) -> u64
     requires { ⌜ (a ≤ 14 * lift) × (f ≤ 14 * lift) × (l .0 ≤ 365000) ⌝ }
     ensures { λ r. ⌜ frac r 240 ≈f afterCounts a f (l .0) ⌝ }
@@ -60,7 +55,7 @@ fn after(a: u64, f: u64, l: Span) -> u64
     whole::less(30000 * a, LIFT7 + 667 * (mm + 30000))
 }
 
-// Both halves' excess as it counts, over 480 after standards.
+// The mean of both halves' excess as it counts, times 480 after standards: so it is whole.
 fn over(a: u64, f: u64, l: Span) -> u64
     requires { ⌜ (a ≤ 14 * lift) × (f ≤ 14 * lift) × (l .0 ≤ 365000) ⌝ }
     ensures { λ r. ⌜ frac r (480 * (667 * (l .0 + 30000))) ≈f meanAbove a f (l .0) ⌝ }
@@ -71,7 +66,7 @@ fn over(a: u64, f: u64, l: Span) -> u64
     after(a, f, l) * w + whole::less(30000 * f, LIFT7 + 1334 * (mm + 30000)) * share(a, l)
 }
 
-// Both halves' deficiency, over 480 after standards.
+// The mean of both halves' deficiency, the same.
 fn under(a: u64, f: u64, l: Span) -> u64
     requires { ⌜ (a ≤ 14 * lift) × (f ≤ 14 * lift) × (l .0 ≤ 365000) ⌝ }
     ensures { λ r. ⌜ frac r (480 * (667 * (l .0 + 30000))) ≈f meanLacks a f (l .0) ⌝ }
@@ -98,27 +93,6 @@ fn mean_of(a: u64, f: u64, l: Span) -> Mean
     }
 }
 
-// What a deficiency adds.
-fn add(deficiency: Freeboard, l: Span, s: Span) -> Freeboard
-    requires { ⌜ (deficiency .0 ≤ 9000000) × (24000 ≤ l .0) × (l .0 ≤ 365000) × (s .0 ≤ l .0) ⌝ }
-    ensures { λ r. ⌜ r .0 ≡ addition (deficiency .0) (l .0) (s .0) ⌝ }
-    ensures { λ r. ⌜ r .0 ≤ 9000000 ⌝ }
-{
-    let mm = l.0;
-    Freeboard(whole::mul_div_up(deficiency.0, 3 * mm - 2 * s.0, 4 * mm))
-}
-
-// What an excess deducts.
-fn deduct(excess: Freeboard, l: Span, s: Span, reach: u64) -> Freeboard
-    requires { ⌜ (excess .0 ≤ 7200000) × (24000 ≤ l .0) × (l .0 ≤ 365000) × (s .0 ≤ l .0) × (reach ≤ 2 * l .0) ⌝ }
-    ensures { λ r. ⌜ r .0 ≡ deduction (excess .0) (l .0) (s .0) reach ⌝ }
-    ensures { λ r. ⌜ r .0 ≤ 456250 ⌝ }
-{
-    let mm = l.0;
-    let full = whole::mul_div_down(excess.0, (3 * mm - 2 * s.0) * reach, 8 * (mm * mm));
-    Freeboard(whole::lesser(full, 5 * mm / 4))
-}
-
 // 38(8) to (11): the mean. The ordinates are AP, L/6, L/3 from AP, then L/3, L/6 from FP, FP. No house changes it.
 pub fn mean_sheer(l: Span, ordinates: [Ordinate; 6]) -> Mean
     requires { ⌜ (l .0 ≤ 365000) × Lifted ordinates ⌝ }
@@ -128,17 +102,4 @@ pub fn mean_sheer(l: Span, ordinates: [Ordinate; 6]) -> Mean
     let a = half(ordinates[0], ordinates[1], ordinates[2]);
     let f = half(ordinates[5], ordinates[4], ordinates[3]);
     mean_of(a, f, l)
-}
-
-// 38(14) to (16): what a mean adds and deducts. `s` is the length that enclosed houses cover; `reach` is the cover's, before amidships and
-// abaft, in tenths of a millimetre.
-pub fn correct(m: Mean, l: Span, s: Span, reach: u64) -> Correction
-    requires { ⌜ (m .deficiency .0 ≤ 9000000) × (m .excess .0 ≤ 7200000) ⌝ }
-    requires { ⌜ (24000 ≤ l .0) × (l .0 ≤ 365000) × (s .0 ≤ l .0) × (reach ≤ 2 * l .0) ⌝ }
-    ensures { λ r. ⌜ (r .added .0 ≡ addition (m .deficiency .0) (l .0) (s .0)) × (r .deducted .0 ≡ deduction (m .excess .0) (l .0) (s .0) reach) ⌝ }
-    ensures { λ r. ⌜ (r .added .0 ≤ 9000000) × (r .deducted .0 ≤ 456250) ⌝ }
-{
-    let added = add(m.deficiency, l, s);
-    let deducted = deduct(m.excess, l, s, reach);
-    Correction { added, deducted }
 }

@@ -11,8 +11,8 @@ use native.Mathlib.Omega.{arith}
 use Rattle.units.specs.Datum.{stationOf}
 use Rattle.ship.specs.declared.House.{House}
 use Rattle.ship.specs.declared.Ship.{Ship}
-use Rattle.ship.specs.declared.checks.Rule.{Rule}
-use Rattle.ship.specs.declared.checks.Rule.the-variants.{EndsAndHeight, RaisedQuarterdeck, NoOverlap}
+use Rattle.ship.specs.declared.rule.Rule.{Rule}
+use Rattle.ship.specs.declared.rule.Rule.the-variants.{EndsAndHeight, RaisedQuarterdeck, NoOverlap}
 use Rattle.ship.specs.Vessel.{housesOf, houseAt}
 use Rattle.ship.specs.Refusals.{Paper, first}
 use Rattle.ship.specs.Checks.{least, most, outside, fieldsOf, fieldOut, badEnds, badQuarterdeck, foreBefore, breaks, breachAt, firstBreach, houseLines, shipLines}

@@ -7,7 +7,7 @@ use native.Mathlib.Decide.{decLt}
 use Rattle.whole.specs.Pick.{pick}
 use Rattle.ship.specs.Checks.{firstFrom}
 
--- one turn: the number at hand fails, it passes, and there is none left
+-- one step of a search that has come to k and ends at n: k fails, k passes, or none is left
 module _ (fails : ℕ → Bool) (n k : ℕ) where
   pub first-fail : k < n → fails k ≡ true → firstFrom fails k (n - k) ≡ k
   unfolding firstFrom pick

@@ -3,3 +3,4 @@ pub mod Lines
 pub mod Accepted
 pub mod OneToOne
 pub mod Passing
+pub mod Zero

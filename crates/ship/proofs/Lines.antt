@@ -39,7 +39,7 @@ pub all-pass-split : (ts us : List Line) → AllPass (ts ++ us) → AllPass ts �
 all-pass-split [] us a = (tt, a)
 all-pass-split (t ∷ ts) us a = let r = all-pass-split ts us (a .1) in ((a .0, r .0), r .1)
 
--- lines that all pass do not count
+-- lines that all pass leave the verdict to those below them
 pub first-skip : (ts us : List Line) → AllPass ts → first (ts ++ us) ≡ first us
 unfolding first pick
 first-skip [] us a = refl
@@ -56,7 +56,7 @@ first-append (t ∷ ts) us m = go (t .0) (first-append ts us (m .1))
     go true r = rw (ne-eqb (t .1 .number) 0 (λ z. omega (arith, m .0))) refl
     go false r = r
 
--- beside a refusal stands what is there for it
+-- what is given by whether the number is 0: beside a refusal it is the second of the two
 pub beside-refusal : {A : Type 0} (r : Refusal) (a b : A) → pick (eqb (numberOf r) 0) a b ≡ b
 unfolding pick
 beside-refusal r a b = rw (ne-eqb (numberOf r) 0 (λ z. omega (arith, number-above-0 r))) refl

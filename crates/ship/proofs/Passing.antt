@@ -10,8 +10,8 @@ use lib.Dec.{leb, ltb}
 use lib.ListN.{length}
 use Rattle.units.specs.Datum.{stationOf}
 use Rattle.ship.specs.declared.House.{House}
-use Rattle.ship.specs.declared.checks.Rule.{Rule}
-use Rattle.ship.specs.declared.checks.Rule.the-variants.{EndsAndHeight, RaisedQuarterdeck, NoOverlap}
+use Rattle.ship.specs.declared.rule.Rule.{Rule}
+use Rattle.ship.specs.declared.rule.Rule.the-variants.{EndsAndHeight, RaisedQuarterdeck, NoOverlap}
 use Rattle.ship.specs.Vessel.{houseAt}
 use Rattle.ship.specs.Refusals.{accepted, first}
 use Rattle.ship.specs.Checks.{badQuarterdeck, breaks, breachAt, firstBreach, houseLines}

@@ -8,8 +8,8 @@ use Rattle.whole.specs.Pick.{pick}
 use Rattle.units.specs.Datum.{stationOf, lift, sheerAt}
 use Rattle.ship.specs.declared.House.{House}
 use Rattle.ship.specs.declared.Ship.{Ship}
-use Rattle.ship.specs.declared.checks.Rule.{Rule}
-use Rattle.ship.specs.declared.checks.Rule.the-variants.{EndsAndHeight, RaisedQuarterdeck, NoOverlap}
+use Rattle.ship.specs.declared.rule.Rule.{Rule}
+use Rattle.ship.specs.declared.rule.Rule.the-variants.{EndsAndHeight, RaisedQuarterdeck, NoOverlap}
 use Rattle.ship.specs.Vessel.{housesOf, houseAt}
 use Rattle.ship.specs.Refusals.{Line, refused}
 
@@ -18,18 +18,18 @@ unfoldable pub firstFrom : (ℕ → Bool) → ℕ → ℕ → ℕ
 firstFrom fails k zero = k
 firstFrom fails k (suc m) = pick (fails k) k (firstFrom fails (k + 1) m)
 
--- fields 1 to 13; an ordinate of sheer by its lifted number
+-- fields 1 to 13; an ordinate of sheer as a lifted number, 8192 above its mm
 abbrev pub fieldsOf : Ship → List ℕ
 fieldsOf x =
     x .length .0 ∷ x .depth .0 ∷ x .moulded .0 ∷ x .block ∷ x .waterplane
     ∷ sheerAt (x .sheer) 0 ∷ sheerAt (x .sheer) 1 ∷ sheerAt (x .sheer) 2 ∷ sheerAt (x .sheer) 3 ∷ sheerAt (x .sheer) 4 ∷ sheerAt (x .sheer) 5
     ∷ x .displacement ∷ x .immersion ∷ []
 
--- the highest ordinate of fourteen bits: 8191 mm of sheer
+-- the highest lifted ordinate of fourteen bits: 8191 mm of sheer
 abbrev pub highest : ℕ
 highest = lift + lift - 1
 
--- the ranges of fields 1 to 13, or of their bits
+-- the ranges of fields 1 to 13: 01's, or what the field's bits can hold
 abbrev pub least : List ℕ
 least = 24000 ∷ 1000 ∷ 1000 ∷ 1 ∷ 1 ∷ 0 ∷ 0 ∷ 0 ∷ 0 ∷ 0 ∷ 0 ∷ 0 ∷ 0 ∷ []
 
@@ -37,7 +37,7 @@ abbrev pub most : List ℕ
 most =
     365000 ∷ 60000 ∷ 60000 ∷ 12000 ∷ 10000 ∷ highest ∷ highest ∷ highest ∷ highest ∷ highest ∷ highest ∷ 1048575 ∷ 65535 ∷ []
 
--- 7: a field outside its range or bits
+-- 7: a field outside its range
 abbrev pub outside : List ℕ → ℕ → Bool
 outside fields k = ltb (getD fields k 0) (getD least k 0) || ltb (getD most k 0) (getD fields k 0)
 
@@ -68,13 +68,13 @@ foreBefore hs (suc k) = houseAt hs k .fore .0
 abbrev pub laps : ℕ → House → Bool
 laps before h = ltb (h .aft .0) before
 
--- one of the three on one house
+-- whether a house breaks a rule; before is the fore end of the house before it
 unfoldable pub breaks : Rule → ℕ → ℕ → House → Bool
 breaks EndsAndHeight l before h = badEnds l h
 breaks RaisedQuarterdeck l before h = badQuarterdeck l h
 breaks NoOverlap l before h = laps before h
 
--- and on the house at place k of a list
+-- and the house at place k of a list
 unfoldable pub breachAt : Rule → ℕ → List House → ℕ → Bool
 breachAt r l hs k = breaks r l (foreBefore hs k) (houseAt hs k)
 

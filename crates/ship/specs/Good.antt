@@ -1,4 +1,4 @@
--- What the checks show of an accepted ship, in plain inequalities: the steps above require this and no more.
+-- What the checks show of an accepted ship, in plain inequalities. The steps of the calculation require this and no more.
 use Prim.Native.Nat.{ℕ, _+_, _-_, _≤_, _<_}
 use mathlib.Core.Bool.{true}
 use mathlib.Core.Path.{_≡_}

@@ -32,7 +32,7 @@ noShip = record {
 abbrev pub housesOf : Ship → List House
 housesOf x = take (x .n) (x .houses)
 
--- the house at place k. Past the end of a list the logic reads a record of naught, which no definition looks at
+-- the house at place k. The logic wants a house for places past the end of a list too; no definition reads so far
 abbrev pub houseAt : List House → ℕ → House
 houseAt hs k = getD hs k (record { enclosed = false; quarterdeck = false; aft = record { 0 = 0 }; fore = record { 0 = 0 }; height = record { 0 = 0 } })
 

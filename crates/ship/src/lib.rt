@@ -7,8 +7,8 @@ use units::Ordinate;
 use units::Span;
 use units::Station;
 
-pub mod checks;
 pub mod refusal;
+pub mod rule;
 
 // A house on the freeboard deck, from its after end to its fore end.
 pub struct House {
@@ -24,22 +24,22 @@ pub struct Ship {
     // 0 is type A, 1 type B.
     pub kind: u64,
     pub n: usize,
-    // L, D and M.
+    // L, the depth D for freeboard, and the least moulded depth M.
     pub length: Span,
     pub depth: Span,
     pub moulded: Span,
     // Cb and Cwf, in ten thousandths.
     pub block: u64,
     pub waterplane: u64,
-    // At AP, L/6, L/3 from AP, then L/3, L/6 from FP, FP.
+    // Of sheer: at AP, at L/6 and at L/3 from it, then at L/3 and at L/6 from FP, and at FP.
     pub sheer: [Ordinate; 6],
-    // Tonnes, and hundredths of a tonne per centimetre; both 0 where nothing is certified.
+    // Tonnes, and hundredths of a tonne per centimetre of draught; both 0 where nothing is certified.
     pub displacement: u64,
     pub immersion: u64,
     pub houses: [House; 8],
 }
 
-// The house of a place beyond the last: nothing, at the after perpendicular.
+// What stands in a place beyond the last house: no length and no height, at the after perpendicular, which a caller reads as 0 mm.
 pub fn no_house() -> House
     ensures { λ r. ⌜ r ≡ noHouse ⌝ }
 {
@@ -52,7 +52,7 @@ pub fn no_house() -> House
     }
 }
 
-// The ship beside a refusal: all zero.
+// The ship beside a refusal, all zero to a caller: LIFT is the number of 0 mm of sheer.
 pub fn no_ship() -> Ship
     ensures { λ r. ⌜ r ≡ noShip ⌝ }
 {

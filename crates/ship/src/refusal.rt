@@ -1,4 +1,4 @@
-// What a call refuses: a case for each number of document 01.
+// Why a call refuses: a case for each number of document 01, with the place where it has one.
 ghost use mathlib.Core.Path.{_≡_};
 ghost use Rattle.whole.specs.Pick.{pick};
 ghost use Rattle.ship.specs.Refusals.{numberOf, placeOf, paper, refused};
@@ -53,7 +53,7 @@ pub fn number(r: Refusal) -> u64
     }
 }
 
-// And its place: the field, or the house counted from 0.
+// And its place: the field, counted from 1, or the house, counted from 0; 0 where there is none.
 pub fn place(r: Refusal) -> u64
     ensures { λ n. ⌜ n ≡ placeOf r ⌝ }
 {
@@ -78,7 +78,7 @@ pub fn place(r: Refusal) -> u64
     }
 }
 
-// A line of the table: its refusal where its check fails, else what the lines below it say.
+// A line of 01's table of refusals: its own where its check fails, else what the lines below it say.
 pub fn line(fails: bool, r: Refusal, below: Verdict) -> Verdict
     ensures { λ v. ⌜ paper v ≡ pick fails (refused (numberOf r) (placeOf r)) (paper below) ⌝ }
 {

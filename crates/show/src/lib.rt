@@ -24,6 +24,12 @@ pub fn next(n: u64) {
     number(n);
 }
 
+// A name, a space and a number.
+fn named(name: &[u8], n: u64) {
+    text(name);
+    next(n);
+}
+
 // A space, and a number with its sign.
 pub fn next_signed(n: i64) {
     text(b" ");
@@ -57,28 +63,24 @@ fn next_ordinate(o: Ordinate) {
     next_either(units::mm_above(o), units::mm_below(o));
 }
 
-fn next_flag(b: bool) {
+fn flag(b: bool) {
     if b {
-        text(b" 1");
+        text(b"1");
     } else {
-        text(b" 0");
+        text(b"0");
     }
 }
 
 pub fn refused(r: Refusal) {
-    text(b"refused");
-    next(refusal::number(r));
+    named(b"refused", refusal::number(r));
     next(refusal::place(r));
 }
 
 fn house(h: House) {
     text(b" [");
-    if h.enclosed {
-        text(b"1");
-    } else {
-        text(b"0");
-    }
-    next_flag(h.quarterdeck);
+    flag(h.enclosed);
+    text(b" ");
+    flag(h.quarterdeck);
     next_station(h.aft);
     next_station(h.fore);
     next(h.height.0);
@@ -107,38 +109,26 @@ fn sheer(s: [Ordinate; 6]) {
 }
 
 pub fn vessel(x: Ship) {
-    text(b"type");
-    next(x.kind);
-    text(b" L");
-    next(x.length.0);
-    text(b" D");
-    next(x.depth.0);
-    text(b" M");
-    next(x.moulded.0);
-    text(b" Cb");
-    next(x.block);
-    text(b" Cwf");
-    next(x.waterplane);
+    named(b"type", x.kind);
+    named(b" L", x.length.0);
+    named(b" D", x.depth.0);
+    named(b" M", x.moulded.0);
+    named(b" Cb", x.block);
+    named(b" Cwf", x.waterplane);
     let s = x.sheer;
     sheer(s);
-    text(b" certified");
-    next(x.displacement);
+    named(b" certified", x.displacement);
     next(x.immersion);
-    text(b" houses");
-    next(x.n as u64);
+    named(b" houses", x.n as u64);
     let hs = x.houses;
     houses(hs, x.n);
 }
 
 fn six(m: Marks) {
-    text(b"S");
-    next(m.s);
-    text(b" T");
-    next(m.t);
-    text(b" W");
-    next(m.w);
-    text(b" WNA");
-    next(m.wna);
+    named(b"S", m.s);
+    named(b" T", m.t);
+    named(b" W", m.w);
+    named(b" WNA", m.wna);
     text(b" F");
     next_signed(m.f);
     text(b" TF");

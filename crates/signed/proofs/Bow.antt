@@ -56,17 +56,17 @@ above-zero n =
     let d = plain (whole n) -s plain (whole lift) in
     same-test (suc (0 * d .bot + d .minus * 1)) (d .plus * 1 + 0 * d .bot) (suc lift) n (λ t. omega arith) (λ t. omega arith)
 
-taken-by : (b : Bool) (f : ℕ)
-    → pick b (plain (whole 1000) *s (plain (whole f) -s plain (whole lift))) nil
+taken-by : (t b : Bool) → t ≡ b → (f : ℕ)
+    → pick t (plain (whole 1000) *s (plain (whole f) -s plain (whole lift))) nil
     ≈s plain (whole (pick b (1000 * f) 0)) -s plain (whole (pick b (1000 * lift) 0))
 unfolding pick
-taken-by true f = omega arith
-taken-by false f = omega arith
+taken-by t true e f = rw e (omega arith)
+taken-by t false e f = rw e (omega arith)
 
 sheer-taken : (o : List Ordinate)
     → sheerTaken o ≈s plain (whole (Bow.sheerTaken (sheerAt o 4) (sheerAt o 5))) -s plain (whole (Bow.sheerTaken (sheerAt o 4) lift))
 unfolding sheerTaken ordinate Bow.sheerTaken
-sheer-taken o = rw (above-zero (sheerAt o 4)) (taken-by (ltb lift (sheerAt o 4)) (sheerAt o 5))
+sheer-taken o = taken-by _ _ (above-zero (sheerAt o 4)) (sheerAt o 5)
 
 all-taken : (x y : Frac) (f l h : ℕ)
     → plain x -s plain y -s (plain (whole f) -s plain (whole l)) -s plain (whole h) ≈s plain (x +f whole l) -s plain (y +f whole (f + h))

@@ -3,7 +3,7 @@ use Prim.Native.Nat.{_+_, _≤_}
 use native.Mathlib.Omega.{arith}
 use Rattle.whole.specs.Frac.{_+f_, _*f_, whole, frac}
 use Rattle.units.specs.Datum.{lift, sheerAt}
-use Rattle.tables.specs.Table37.{ordinaryRow}
+use Rattle.percentages.specs.Table37.{ordinaryRow}
 use Rattle.ship.specs.declared.Ship.{Ship}
 use Rattle.ship.specs.Vessel.{housesOf}
 use Rattle.houses.specs.Length.{partOf}
@@ -11,11 +11,12 @@ use Rattle.houses.specs.Effective.{exactEffective}
 use Rattle.houses.proofs.Counted.{covered-most}
 use Rattle.corrections.specs.Fullness30.{counted}
 use Rattle.corrections.specs.Gathered as Before
+use Rattle.deduction.specs.Deduction37.{exactDeducted}
 use Rattle.sheer.specs.Sheer as Sheer
 use Rattle.bow.specs.Bow as Bow
 use Rattle.mark.specs.Summer.{exactSummer}
-use Rattle.marks.specs.Steps.{Sound, typeB, coveredS, forecastleHouse, coverReach, basis}
-use Rattle.marks.specs.Exact.{exactE, exactAddedTo, exactTakenFrom, exactBowOf, exactSummerOf}
+use Rattle.steps.specs.Steps.{Sound, typeB, coveredS, forecastleHouse, coverReach, basis}
+use Rattle.steps.specs.Exact.{exactE, exactAddedTo, exactTakenFrom, exactBowOf, exactSummerOf}
 use Rattle.signed.specs.Signed.{_≈s_, plain, _-s_}
 use Rattle.signed.specs.Summer.{corrected, bowOf, signedSummerOf}
 use Rattle.signed.proofs.Laws.{refl≈s, trans≈s, +s-same, two-differences, held}
@@ -28,7 +29,7 @@ unfolding corrected exactAddedTo exactTakenFrom
 corrected-same x k =
     let l = x .length .0 in
     let a = Before.exactAdded (basis x .exact) (typeB x) l (x .depth .0) (counted (x .block)) (exactE x) in
-    let d = Before.exactDeducted (typeB x) ordinaryRow (exactEffective l (forecastleHouse x)) l (exactE x) in
+    let d = exactDeducted (typeB x) ordinaryRow (exactEffective l (forecastleHouse x)) l (exactE x) in
     let s : coveredS x ≤ l = unfold coveredS in covered-most l (housesOf x) (k .good .houses) in
     trans≈s (+s-same (refl≈s (plain a -s plain d)) (sheer-signed (x .sheer) l (coveredS x) (coverReach x) (omega (arith, k .good .length-least)) s))
     (two-differences a d (Sheer.exactAdded (x .sheer) l (coveredS x)) (Sheer.exactDeducted (x .sheer) l (coveredS x) (coverReach x)))

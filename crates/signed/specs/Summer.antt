@@ -1,14 +1,15 @@
 -- 01, "Steps to the summer mark", of a ship, with signs and no rounding. 38 and 39 are Formula.antt's; what needs no sign is the exact value of its own
 -- regulation's crate. Freeboards in um, the mark in mm.
 use Rattle.whole.specs.Frac.{whole, frac}
-use Rattle.tables.specs.Table37.{ordinaryRow}
+use Rattle.percentages.specs.Table37.{ordinaryRow}
 use Rattle.ship.specs.declared.Ship.{Ship}
 use Rattle.houses.specs.Length.{partOf}
 use Rattle.houses.specs.Effective.{exactEffective}
 use Rattle.corrections.specs.Fullness30.{counted}
-use Rattle.corrections.specs.Gathered.{exactAdded, exactDeducted}
-use Rattle.marks.specs.Steps.{typeB, coveredS, forecastleHouse, coverReach, basis}
-use Rattle.marks.specs.Exact.{exactE}
+use Rattle.corrections.specs.Gathered.{exactAdded}
+use Rattle.deduction.specs.Deduction37.{exactDeducted}
+use Rattle.steps.specs.Steps.{typeB, coveredS, forecastleHouse, coverReach, basis}
+use Rattle.steps.specs.Exact.{exactE}
 use Rattle.signed.specs.Signed.{Signed, plain, _+s_, _-s_, _*s_, maxs}
 use Rattle.signed.specs.Formula.{mean, bySheer, bow}
 

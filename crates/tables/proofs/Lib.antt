@@ -1,4 +1,2 @@
 pub mod Every
 pub mod Rule28
-pub mod Laws28
-pub mod Percentages

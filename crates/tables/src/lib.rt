@@ -1,6 +1,4 @@
-// The constant tables: the tabular freeboards of regulation 28, and the percentages of regulations 37 and 45.
+// The rows of regulation 28: tables 28.1 and 28.2.
 pub mod row28;
-pub mod table28;
 pub mod table28a;
 pub mod table28b;
-pub mod table37;

@@ -1,4 +1,4 @@
--- 01's signed millimetres as numbers that are never below zero: a station is counted from a datum, an ordinate of sheer is lifted.
+-- 01's signed millimetres as numbers that are never below zero: a station has `datum` added to it, an ordinate of sheer has `lift`.
 use Prim.Native.Nat.{ℕ, _+_, _-_, _<_}
 use mathlib.Core.Bool.{_&&_}
 use mathlib.Core.List.{List}
@@ -9,12 +9,12 @@ use Rattle.whole.specs.Pick.{pick}
 use Rattle.whole.specs.Sign.{negative}
 use Rattle.units.specs.declared.Ordinate.{Ordinate}
 
--- so many mm from a zero, negative ones below it and no farther than the number 0
+-- the number for so many signed mm, if `from` stands for 0 mm; what would be below 0 is 0
 unfoldable pub countedFrom : ℕ → ℤ → ℕ
 countedFrom from mm = pick (negative mm) (from - natAbs mm) (from + natAbs mm)
 
 -- ---- stations
--- the station of the after perpendicular
+-- the station of the after perpendicular: 0 mm
 abbrev pub datum : ℕ
 datum = 1048576
 
@@ -26,7 +26,7 @@ stationOf mm = datum + mm
 abbrev pub mmOf : ℕ → ℤ
 mmOf s = pos s -ℤ pos datum
 
--- and back. What lies abaft the datum counts as at it, and 9 refuses either
+-- and back. What would be below 0 is 0, and 9 refuses either
 abbrev pub stationAt : ℤ → ℕ
 stationAt mm = countedFrom datum mm
 

@@ -1,16 +1,15 @@
-// The units that regulation 28 keeps apart, a type for each: none can be added to another. A number crosses from one to another only in a
-// function of this file, or in that of a regulation's formula, which makes a freeboard, or an effective length, of lengths. A plain number gets
-// its unit where it comes in: from a record, from C, from who asks.
+// The units that regulation 28 keeps apart, a type for each: none can be added to another. One becomes another only in a function of this file, or in a
+// regulation's formula, as where lengths give a freeboard. A plain number gets its unit where it comes in: from a record, from C, from who asks.
 ghost use mathlib.Core.Path.{_≡_};
 ghost use Prim.Native.Nat.{_+_, _-_, _*_, _/_, _^_, _≤_, _<_, min, max};
 ghost use lib.Dec.{leb, ltb};
 ghost use Rattle.whole.specs.Divide.{ceilDiv};
 ghost use Rattle.units.specs.Datum.{datum, lift, stationOf, mmOf, stationAt, sheerOf, ordinateAt, countedFrom};
 
-// A place along the ship, in millimetres forward of a datum that lies 2^20 mm abaft the after perpendicular, so that none is below zero.
+// A place along the ship: millimetres forward of the after perpendicular (AP), negative abaft it, with 2^20 added so that none is below zero.
 pub struct Station(pub u64);
 
-// The after perpendicular's.
+// The station of the after perpendicular: 0 mm.
 pub const AP: u64 = 1048576;
 
 // A length or a height, in millimetres.
@@ -22,13 +21,13 @@ pub struct Effective(pub u64);
 // A freeboard, in micrometres.
 pub struct Freeboard(pub u64);
 
-// An ordinate of sheer, in millimetres above a line that lies 8192 mm below the deck line, so that none is below zero.
+// An ordinate of sheer: its signed millimetres plus 8192, so that none is below zero.
 pub struct Ordinate(pub u64);
 
-// The ordinate of no sheer.
+// The ordinate of no sheer: 0 mm.
 pub const LIFT: u64 = 8192;
 
-// So many millimetres from a zero, negative ones below it and no farther than the number 0.
+// The number that stands for so many signed millimetres, if `zero` stands for 0 mm; what would be below 0 is 0.
 fn counted_from(zero: u64, mm: i64) -> u64
     requires { ⌜ zero ≤ datum ⌝ }
     ensures { λ r. ⌜ r ≡ countedFrom zero mm ⌝ }
@@ -48,13 +47,6 @@ pub fn forward_of_ap(l: Span) -> Station
 {
     let mm = l.0;
     Station(AP + mm)
-}
-
-// The station that lies `l` abaft it, and no farther than the datum.
-pub fn abaft_of_ap(l: Span) -> Station
-    ensures { λ r. ⌜ r .0 ≡ datum - l .0 ⌝ }
-{
-    Station(whole::less(AP, l.0))
 }
 
 // Whether the first of two stations lies abaft the second.
@@ -96,7 +88,7 @@ pub fn between(aft: Station, fore: Station) -> Span
     Span(whole::less(fore.0, aft.0))
 }
 
-// A station, half a length and a tenth of it, in tenths of a millimetre: each is whole in these.
+// A station, half a length and a tenth of a length, in tenths of a millimetre: in millimetres the last two need not be whole.
 pub fn in_tenths(s: Station) -> u64
     requires { ⌜ s .0 < 2 ^ 32 ⌝ }
     ensures { λ r. ⌜ r ≡ 10 * s .0 ⌝ }
@@ -199,7 +191,7 @@ pub fn freeboard_of_mm(mm: u64) -> Freeboard
     Freeboard(1000 * mm)
 }
 
-// What a freeboard is less by for an ordinate of sheer. It is still lifted.
+// An ordinate of sheer as a freeboard. The 8192 mm added to it (LIFT) are still in it.
 pub fn freeboard_of_sheer(o: Ordinate) -> Freeboard
     requires { ⌜ o .0 < 2 ^ 32 ⌝ }
     ensures { λ r. ⌜ r .0 ≡ 1000 * o .0 ⌝ }

@@ -1,4 +1,5 @@
--- Laws of specs/Divide.antt.
+-- Laws of quotients rounded up and down, and bounds of products. `omega` multiplies out but does not multiply two facts with each other: these laws hand it
+-- the products.
 use mathlib.Core.Path.{_≡_, sym}
 use Prim.Native.Nat.{ℕ, suc, _+_, _*_, _-_, _/_, _^_, _≤_, _<_, min, max}
 use native.Mathlib.Omega.{arith, max-cases, min-cases}

@@ -1,5 +1,4 @@
--- Quotients of naturals rounded up and down, and bounds of products and quotients with their numbers written:
--- `omega` multiplies out but does not multiply two facts, so these laws hand it the products.
+-- The quotient of two naturals rounded up. Rounded down it is `_/_` itself.
 use Prim.Native.Nat.{ℕ, _+_, _-_, _/_}
 
 -- a / b rounded up, as code computes it

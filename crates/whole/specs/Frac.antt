@@ -1,5 +1,5 @@
--- Fractions of naturals, in which the exact values are written. A fraction is a pair whose bottom is known to be positive: a bottom `suc d` would
--- double the monomials of every product. The orders are records, so that a law finds its fractions by itself; `omega` reads and makes them by their fields.
+-- Fractions of naturals, in which the exact values are written: a top and a bottom that is above zero. They are compared by their cross products. The orders
+-- are records, so that a law finds its fractions by itself; `omega` reads and makes them by their fields.
 use mathlib.Core.Path.{_≡_}
 use mathlib.Core.Bool.{Bool}
 use Prim.Native.Nat.{ℕ, suc, pred, _+_, _*_, _-_, _/_, _≤_, _<_, min, max}

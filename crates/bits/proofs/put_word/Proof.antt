@@ -1,8 +1,8 @@
 -- The bytes passed are the number's; the others are as they were.
-use Prim.Native.Nat.{_+_, _-_, _*_, _≤_, _<_}
-use mathlib.Core.Path.{_≡_, _∙_}
+use Prim.Native.Nat.{ℕ, _+_, _-_, _*_, _/_, _%_, _^_, _≤_, _<_}
+use mathlib.Core.Path.{_≡_, sym, ap, _∙_}
 use mathlib.Core.List.{_++_}
-use lib.ListN.{length, take, drop}
+use lib.ListN.{length, take, drop, set}
 use denote.Ref.{now}
 use Rattle.bits.specs.Fields.{piece, bytes}
 use Rattle.bits.proofs.Radix.{getD-bytes, length-bytes}
@@ -41,7 +41,8 @@ put-word-spec =
     let j = l .loop .j in
     let h : j < length d = omega arith in
     let e : l .loop .after - 8 ≡ 8 * length d - 8 * (j + 1) = omega arith in
-    (omega arith, e, rw (e, ← getD-bytes (length d) n j h, l .loop .inv .2) (fill-step d (bytes (length d) n) j h (omega (arith, length-bytes (length d) n))), search needs))
+    let byte = ap (λ (a : ℕ). n / 2 ^ a % 256) e ∙ sym (getD-bytes (length d) n j h) in
+    (omega arith, e, (λ i. set (l .loop .inv .2 i) j (byte i)) ∙ fill-step d (bytes (length d) n) j h (omega (arith, length-bytes (length d) n)), search needs))
     (λ c. search needs)
     (λ c.
     let l = c .before in

@@ -9,11 +9,10 @@ use Rattle.mark.specs.Summer.{Holds}
 use Rattle.mark.specs.declared.Answer.{Answer}
 use Rattle.mark.specs.declared.Answer.the-variants.{Given, Refused}
 use Rattle.mark.specs.Others.{sheet}
-use Rattle.marks.specs.Exact as Exact
-use Rattle.marks.specs.Exact.{exactSummerOf}
-use Rattle.marks.specs.Marks.{sheetIn}
-use Rattle.face.specs.declared.MarksAnswer.{MarksAnswer}
-use Rattle.face.specs.Answers.{fromSheet}
+use Rattle.steps.specs.Exact.{exactSummerOf}
+use Rattle.marks.specs.Marks.{sheetIn, Bounded}
+use Rattle.answers.specs.declared.MarksAnswer.{MarksAnswer}
+use Rattle.answers.specs.Answers.{fromSheet}
 use Rattle.face.proofs.Room.{small-in}
 use Rattle.face.proofs.loadline_marks.Statement.{statement}
 use Rattle.face.proofs.loadline_marks.Tie as tie
@@ -39,7 +38,7 @@ loadline-marks-spec =
     let a = c .before .before in
     let r = a .before .before in
     let x = shipIn (now (r .before .before .args .bytes)) in
-    let h : Holds (a .a .given .0 .0 .s) (exactSummerOf x) = subst (λ (y : Answer). Exact.Bounded y x) (a .a .given .1) (r .of-record .ensures .1) in
+    let h : Holds (a .a .given .0 .0 .s) (exactSummerOf x) = subst (λ (y : Answer). Bounded y x) (a .a .given .1) (r .of-record .ensures .1) in
     (c .marked .ensures ∙ ap fromSheet (given a), λ z. rw (c .marked .ensures) h))
     (λ c.
     let a = c .before .before in

@@ -3,9 +3,9 @@ use denote.Ref.{now}
 use borrow.Author.Needs.{needs}
 use Rattle.ship.specs.declared.Ship.{Ship}
 use Rattle.record.specs.Reading.{Reading}
-use Rattle.face.specs.Flat.{NearSheer, NearHouses}
-use Rattle.face.specs.Answers.{fromReading}
-use Rattle.face.proofs.Room.{near-read}
+use Rattle.flat.specs.Flat.{NearSheer, NearHouses}
+use Rattle.answers.specs.Answers.{fromReading}
+use Rattle.flat.proofs.Near.{near-read}
 use Rattle.face.proofs.loadline_read.Statement.{statement}
 use Rattle.face.proofs.loadline_read.Tie as tie
 

@@ -5,7 +5,7 @@ use borrow.Author.Needs.{needs}
 use Rattle.ship.specs.declared.Ship.{Ship}
 use Rattle.ship.specs.Refusals.{Paper}
 use Rattle.record.specs.Writing.{writingOf, written}
-use Rattle.face.specs.Answers.{fromVerdict}
+use Rattle.answers.specs.Answers.{fromVerdict}
 use Rattle.face.proofs.Room.{few-written}
 use Rattle.face.proofs.loadline_write.Statement.{statement}
 use Rattle.face.proofs.loadline_write.Tie as tie

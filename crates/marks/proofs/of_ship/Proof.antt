@@ -2,11 +2,13 @@
 use mathlib.Core.Path.{_≡_, ap, ap₂, _∙_}
 use borrow.Author.Needs.{needs}
 use Rattle.mark.specs.Others.{sheetAt}
-use Rattle.marks.specs.Steps.{summerOf}
-use Rattle.marks.specs.Parts.{hullOf, summerOn}
+use Rattle.hull.specs.declared.Hull.{Hull}
+use Rattle.steps.specs.Steps.{summerOf}
+use Rattle.hull.specs.Parts.{hullOf, summerOn}
+use Rattle.hull.proofs.Parts.{summer-parts}
 use Rattle.marks.specs.Marks.{particularsOf, sheetFor}
+use Rattle.marks.proofs.Particulars.{fair-particulars}
 use Rattle.marks.proofs.Demand.{bounded}
-use Rattle.marks.proofs.Parts.{summer-parts, fair-particulars}
 use Rattle.marks.proofs.of_ship.Statement.{statement}
 use Rattle.marks.proofs.of_ship.Tie as tie
 
@@ -18,7 +20,7 @@ of-ship-spec =
     (λ c κs. search needs)
     (λ c κs. search needs)
     (λ c κs. (c .before .hull-of .ensures .1, rw (c .before .hull-of .ensures .0) (c .deck-of .ensures .1)))
-    (λ c κs. search needs)
+    (λ c κs. ap (λ (h : Hull). h .basis .floor) (c .before .before .hull-of .ensures .0))
     (λ c κs.
     let d = c .before .before in
     let s = d .before .before .before in

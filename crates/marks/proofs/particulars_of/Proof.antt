@@ -1,20 +1,17 @@
-use mathlib.Core.Path.{ap}
-use Rattle.marks.specs.declared.hull.Hull.{Hull}
-use Rattle.marks.specs.Parts.{hullOf}
 use Rattle.marks.specs.Marks.{particularsOf}
 use Rattle.marks.proofs.particulars_of.Statement.{statement}
 use Rattle.marks.proofs.particulars_of.Tie as tie
 
 pub particulars-of-spec : {M : Type 1} → statement M
-unfolding particularsOf hullOf
+unfolding particularsOf
 particulars-of-spec =
     tie.close
     (tie.spec
     (λ c.
-    let s = c .before .before .before in
+    let s = c .before .before in
     let x = s .args .x in
     λ i. record {
-      floor = ap (λ (h : Hull). h .basis .floor) (s .pre) i;
+      floor = s .pre i;
       depth = x .depth;
       length = x .length;
       displacement = x .displacement;

@@ -1,6 +1,6 @@
 -- Refusal 14, then 15, then what the search gives.
-use mathlib.Core.Bool.{_&&_, _||_}
-use mathlib.Core.Path.{_≡_, refl, sym, _∙_}
+use mathlib.Core.Bool.{Bool, _&&_, _||_}
+use mathlib.Core.Path.{_≡_, refl, sym, ap, _∙_}
 use lib.Dec.{ltb, leb, eqb}
 use borrow.Author.Needs.{needs}
 use borrow.Author.Tests.{eqb-false, ltb-false}
@@ -8,9 +8,9 @@ use native.Mathlib.Omega.{arith}
 use Rattle.units.specs.Datum.{stationOf}
 use Rattle.whole.specs.Pick.{pick}
 use Rattle.ship.specs.Vessel.{houseAt}
-use Rattle.ship.specs.Refusals.{first}
+use Rattle.ship.specs.Refusals.{accepted, refused, first}
 use Rattle.ship.proofs.Lines.{or-false}
-use Rattle.poop.specs.Question.{replyFor}
+use Rattle.poop.specs.Question.{noRoom, replyOf, shortestFor, replyFor}
 use Rattle.poop.proofs.of_ship.Statement.{statement}
 use Rattle.poop.proofs.of_ship.Tie as tie
 
@@ -19,7 +19,9 @@ unfolding replyFor first pick
 of-ship-spec =
     tie.close
     (tie.spec
-    (λ c. rw (c .if1 .taken) refl)
+    (λ c.
+    let a = c .before .args in
+    ap (λ (b : Bool). replyOf (pick b (refused 14 0) (pick (noRoom (a .x)) (refused 15 0) accepted)) (shortestFor (a .x) (a .height) (a .wish))) (sym (c .if1 .taken)))
     (λ c κs. search needs)
     (λ c. rw (c .before .before .if1 .left, sym (c .before .no-room .ensures) ∙ c .if2 .taken) refl)
     (λ c κs. let s = c .before .before .before in

@@ -1,14 +1,14 @@
--- What is left of the search, from the length at hand on, gives the whole search's answer.
+-- The loop keeps this: the search from k on, over the lengths that are left, gives the answer of the whole search.
 use Prim.Native.Nat.{ℕ, _+_, _*_, _-_, _≤_}
-use mathlib.Core.Path.{_≡_, sym, _∙_}
+use mathlib.Core.Path.{_≡_, sym, ap, _∙_}
 use lib.ListN.{length, length-map}
 use native.Mathlib.Nat.{sub-zero}
 use native.Mathlib.Omega.{arith}
 use borrow.Author.Needs.{needs}
-use Rattle.poop.specs.Standing.{fitsOn}
+use Rattle.trial.specs.Standing.{fitsOn}
 use Rattle.poop.specs.Question.{shortestFrom, shortestFor}
-use Rattle.poop.proofs.Search.{hit, miss, end}
-use Rattle.poop.proofs.Standing.{length-stands, searched}
+use Rattle.trial.proofs.Trial.{length-stands}
+use Rattle.poop.proofs.Search.{hit, miss, end, searched}
 use Rattle.poop.proofs.shortest.Statement.{statement}
 use Rattle.poop.proofs.shortest.Tie as tie
 
@@ -46,7 +46,7 @@ shortest-spec =
     μ-loop
     (λ c κs. c .pre)
     (λ c κs. search needs)
-    (λ c. (omega arith, rw sub-zero))
+    (λ c. (omega arith, ap (λ (n : ℕ). shortestFrom (fitsOn (c .before .standing-of .result)) n 0) (sub-zero (c .dm-within .result + 1))))
     (λ c κs.
     let d = c .before .before in
     let a = d .before in

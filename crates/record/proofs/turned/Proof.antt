@@ -1,4 +1,4 @@
-use Prim.Native.Nat.{_+_, _*_, _%_}
+use Prim.Native.Nat.{_*_}
 use mathlib.Core.Path.{refl}
 use native.Mathlib.Nat.{mod-lt}
 use native.Mathlib.Omega.{arith}
@@ -18,4 +18,4 @@ turned-spec =
     (λ c. search needs)
     (λ c.
     let a = c .args in
-    (refl, mod-lt (a .u % (2 * a .half) + a .half) {m = 2 * a .half} (omega arith))))
+    (refl, mod-lt _ {m = 2 * a .half} (omega arith))))

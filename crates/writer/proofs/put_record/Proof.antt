@@ -8,7 +8,7 @@ use Rattle.bits.specs.Fields.{Fit}
 use Rattle.record.specs.declared.Head.{Head}
 use Rattle.record.specs.Layout.{recordBytes, headWidths, headFields, headBytes, shipHead}
 use Rattle.record.proofs.Parts.{length-headBytes}
-use Rattle.writer.proofs.Parts.{behind-head}
+use Rattle.house_bytes.proofs.Written.{behind-head}
 use Rattle.writer.proofs.put_record.Statement.{statement}
 use Rattle.writer.proofs.put_record.Tie as tie
 
@@ -27,7 +27,7 @@ put-record-spec =
     (length-take-le 27 (now (s .args .buf)) (omega arith), subst (λ (h : Head). Fit headWidths (headFields h)) (sym (d .head-of .ensures)) (s .pre .1 .0)))
     (λ c κs.
     let s = c .before .before .before .before .before .before .before .before in
-    ((s .pre .0 .0, omega arith), s .pre .1 .1))
+    ((omega arith, omega arith), s .pre .1 .1))
     (λ c. search needs)
     (λ c.
     let w = c .before .before in

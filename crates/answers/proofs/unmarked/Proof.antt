@@ -1,0 +1,15 @@
+use lib.IntN.{pos}
+use borrow.Author.Needs.{needs}
+use Rattle.answers.specs.Answers.{fromSheet}
+use Rattle.answers.proofs.unmarked.Statement.{statement}
+use Rattle.answers.proofs.unmarked.Tie as tie
+
+pub unmarked-spec : {M : Type 1} → statement M
+unfolding fromSheet
+unmarked-spec =
+    tie.close
+    (tie.spec
+    (λ c κs. search needs)
+    (λ c κs. search needs)
+    (λ c.
+    λ i. record { refusal = c .before .number .ensures i; place = c .place .ensures i; s = pos 0; t = pos 0; w = pos 0; wna = pos 0; f = pos 0; tf = pos 0 }))

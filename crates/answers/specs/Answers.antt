@@ -1,0 +1,53 @@
+-- The answers of the calls for C: 01's numbers laid out flat. Refusal 0 refuses nothing; beside any other all else is zero.
+use Prim.Native.Nat.{_^_, _<_}
+use mathlib.Core.Path.{_≡_}
+use lib.Dec.{eqb}
+use lib.IntN.{pos, natAbs}
+use Rattle.whole.specs.Pick.{pick}
+use Rattle.ship.specs.declared.Ship.{Ship}
+use Rattle.ship.specs.Refusals.{Paper}
+use Rattle.record.specs.Layout.{recordLength}
+use Rattle.record.specs.Reading.{Reading}
+use Rattle.mark.specs.declared.Marks.{Marks}
+use Rattle.mark.specs.Summer.{Holds}
+use Rattle.mark.specs.Others.{Sheet}
+use Rattle.steps.specs.Exact.{exactSummerOf}
+use Rattle.poop.specs.Question.{Reply}
+use Rattle.answers.specs.declared.MarksAnswer.{MarksAnswer}
+use Rattle.answers.specs.declared.PoopAnswer.{PoopAnswer}
+use Rattle.answers.specs.declared.ReadAnswer.{ReadAnswer}
+use Rattle.answers.specs.declared.WriteAnswer.{WriteAnswer}
+use Rattle.flat.specs.Flat.{shipOf}
+
+unfoldable pub fromSheet : Sheet → MarksAnswer
+fromSheet a = record {
+  refusal = a .verdict .number;
+  place = a .verdict .place;
+  s = pos (a .marks .s);
+  t = pos (a .marks .t);
+  w = pos (a .marks .w);
+  wna = pos (a .marks .wna);
+  f = a .marks .f;
+  tf = a .marks .tf;
+}
+
+-- where marks are given, S is never below the exact value, and less than 1.1 mm above it
+abbrev pub Bounded : MarksAnswer → Ship → Type 0
+Bounded a x = a .refusal ≡ 0 → Holds (natAbs (a .s)) (exactSummerOf x)
+
+-- marks that a signed number holds with ease
+pub record Small (m : Marks) : Type 0 where
+  pub s : m .s < 2 ^ 32
+  pub t : m .t < 2 ^ 32
+  pub w : m .w < 2 ^ 32
+  pub wna : m .wna < 2 ^ 32
+
+unfoldable pub fromReply : Reply → PoopAnswer
+fromReply a = record { refusal = a .verdict .number; place = a .verdict .place; decimetres = a .decimetres }
+
+unfoldable pub fromReading : Reading → ReadAnswer
+fromReading a = record { refusal = a .verdict .number; place = a .verdict .place; ship = shipOf (a .ship) }
+
+-- with the record's length
+unfoldable pub fromVerdict : Paper → Ship → WriteAnswer
+fromVerdict p x = record { refusal = p .number; place = p .place; bytes = pick (eqb (p .number) 0) (recordLength (x .n)) 0 }

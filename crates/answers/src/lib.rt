@@ -1,0 +1,138 @@
+// The answers of the calls for C: structs of 64-bit numbers, by value. Refusal 0 refuses nothing; beside any other all else is 0.
+ghost use mathlib.Core.Path.{_≡_};
+ghost use Prim.Native.Nat.{_≤_};
+ghost use lib.Dec.{eqb};
+ghost use Rattle.whole.specs.Pick.{pick};
+ghost use Rattle.ship.specs.Refusals.{paper};
+ghost use Rattle.record.specs.Layout.{recordLength};
+ghost use Rattle.mark.specs.Others.{sheet};
+ghost use Rattle.mark.specs.declared.Answer.the-variants.{Given, Refused};
+ghost use Rattle.poop.specs.Question.{reply};
+ghost use Rattle.answers.specs.Answers.{fromSheet, fromReply, Small};
+use flat::FlatShip;
+use mark::Marks;
+use record::HEAD_BYTES;
+use record::HOUSE_BYTES;
+use ship::refusal;
+use ship::refusal::Refusal;
+use ship::refusal::Verdict;
+
+// The six marks, in mm below the deck line.
+#[repr(C)]
+pub struct MarksAnswer {
+    pub refusal: u64,
+    pub place: u64,
+    pub s: i64,
+    pub t: i64,
+    pub w: i64,
+    pub wna: i64,
+    pub f: i64,
+    pub tf: i64,
+}
+
+// The shortest poop.
+#[repr(C)]
+pub struct PoopAnswer {
+    pub refusal: u64,
+    pub place: u64,
+    pub decimetres: u64,
+}
+
+// The ship that was read.
+#[repr(C)]
+pub struct ReadAnswer {
+    pub refusal: u64,
+    pub place: u64,
+    pub ship: FlatShip,
+}
+
+// The length of the record that was written.
+#[repr(C)]
+pub struct WriteAnswer {
+    pub refusal: u64,
+    pub place: u64,
+    pub bytes: u64,
+}
+
+pub fn marked(m: Marks) -> MarksAnswer
+    requires { ⌜ Small m ⌝ }
+    ensures { λ r. ⌜ r ≡ fromSheet (sheet (Given m)) ⌝ }
+{
+    let s = whole::with_sign(m.s);
+    let t = whole::with_sign(m.t);
+    let w = whole::with_sign(m.w);
+    let wna = whole::with_sign(m.wna);
+    MarksAnswer {
+        refusal: 0,
+        place: 0,
+        s,
+        t,
+        w,
+        wna,
+        f: m.f,
+        tf: m.tf,
+    }
+}
+
+pub fn unmarked(r: Refusal) -> MarksAnswer
+    ensures { λ a. ⌜ a ≡ fromSheet (sheet (Refused r)) ⌝ }
+{
+    MarksAnswer {
+        refusal: refusal::number(r),
+        place: refusal::place(r),
+        s: 0,
+        t: 0,
+        w: 0,
+        wna: 0,
+        f: 0,
+        tf: 0,
+    }
+}
+
+// The shortest poop, or what is refused.
+pub fn poop_of(a: poop::Answer) -> PoopAnswer
+    ensures { λ r. ⌜ r ≡ fromReply (reply a) ⌝ }
+{
+    match a {
+        poop::Answer::Poop(k) => PoopAnswer {
+            refusal: 0,
+            place: 0,
+            decimetres: k,
+        },
+        poop::Answer::Refused(r) => PoopAnswer {
+            refusal: refusal::number(r),
+            place: refusal::place(r),
+            decimetres: 0,
+        },
+    }
+}
+
+// A verdict's number and place, 0 where nothing is refused.
+pub fn number_of(v: Verdict) -> u64
+    ensures { λ r. ⌜ r ≡ paper v .number ⌝ }
+{
+    match v {
+        Verdict::Accepted => 0,
+        Verdict::Refused(r) => refusal::number(r),
+    }
+}
+
+pub fn place_of(v: Verdict) -> u64
+    ensures { λ r. ⌜ r ≡ paper v .place ⌝ }
+{
+    match v {
+        Verdict::Accepted => 0,
+        Verdict::Refused(r) => refusal::place(r),
+    }
+}
+
+// The length of the record of `n` houses that was written, or 0 where it was refused.
+pub fn length_of(v: Verdict, n: usize) -> u64
+    requires { ⌜ (paper v .number ≡ 0 → n ≤ 8) ⌝ }
+    ensures { λ r. ⌜ r ≡ pick (eqb (paper v .number) 0) (recordLength n) 0 ⌝ }
+{
+    match v {
+        Verdict::Accepted => (HEAD_BYTES + HOUSE_BYTES * n) as u64,
+        Verdict::Refused(_) => 0,
+    }
+}

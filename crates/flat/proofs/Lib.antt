@@ -1,0 +1,4 @@
+pub mod Filled
+pub mod Near
+pub mod Kept
+pub mod Clean

@@ -1,0 +1,86 @@
+-- The head's fields, by shifts and remainders of four words.
+use Prim.Native.Nat.{ℕ, _+_, _*_, _/_, _%_, _^_, _≤_}
+use mathlib.Core.List.{List, [], _∷_, _++_}
+use mathlib.Core.Path.{_≡_, refl, ap, _∙_}
+use lib.ListN.{length, take, drop, getD}
+use native.Mathlib.Omega.{arith}
+use Rattle.bits.specs.Fields.{number, unpack, piece, Bytes}
+use Rattle.bits.proofs.Joined.{unpack-parts}
+use Rattle.units.specs.declared.Ordinate.{Ordinate}
+use Rattle.units.specs.Datum.{lift}
+use Rattle.record.specs.declared.Head.{Head}
+use Rattle.record.specs.Layout.{headWidths, headOf, headIn, ordinateIn}
+use Rattle.record.proofs.Complement.{turn-low}
+use Rattle.record.specs.Words.{firstWidths, fullnessWidths, fourWidths, lastWidths, sheerIn}
+use Rattle.bits.proofs.Cut.{piece-cut}
+
+-- the head that four words hold, as the reader takes them apart, with its ordinates of sheer
+abbrev pub headOfWords : ℕ → ℕ → ℕ → List Ordinate → Head
+headOfWords a b d o = record {
+  version = a / 2 ^ 60 % 2 ^ 4;
+  kind = a / 2 ^ 58 % 2 ^ 2;
+  count = a / 2 ^ 54 % 2 ^ 4;
+  spare = a / 2 ^ 48 % 2 ^ 6;
+  length = record { 0 = a / 2 ^ 28 % 2 ^ 20 };
+  depth = record { 0 = a / 2 ^ 12 % 2 ^ 16 };
+  moulded = record { 0 = a % 2 ^ 12 * 2 ^ 4 + b / 2 ^ 28 % 2 ^ 4 };
+  block = b / 2 ^ 14 % 2 ^ 14;
+  waterplane = b % 2 ^ 14;
+  sheer = o;
+  displacement = d / 2 ^ 16 % 2 ^ 20;
+  immersion = d % 2 ^ 16;
+}
+
+-- all fields, M in two
+abbrev cut : List ℕ
+cut = firstWidths ++ fullnessWidths ++ fourWidths ++ lastWidths
+
+-- and M whole again
+abbrev joined : List ℕ → List ℕ
+joined f = take 6 f ++ ((getD f 6 0 * 2 ^ 4 + getD f 7 0) ∷ drop 8 f)
+
+join-cut : (n : ℕ) → unpack headWidths n ≡ joined (unpack cut n)
+unfolding unpack
+join-cut n = ap (λ (m : ℕ). take 6 (unpack headWidths n) ++ (m ∷ unpack (drop 7 headWidths) n)) (piece-cut n 148 12 4)
+
+-- an ordinate from a word, and from its piece
+ordinate-piece : (n a : ℕ) → ordinateIn (piece n a 14) ≡ ordinateIn (n / 2 ^ a)
+unfolding piece
+ordinate-piece n a = λ i. record { 0 = turn-low lift (n / 2 ^ a) i }
+
+pieces : (a b c d : ℕ) → headOf (joined (unpack firstWidths a ++ unpack fullnessWidths b ++ unpack fourWidths c ++ unpack lastWidths d)) ≡ headOfWords a b d (sheerIn c d)
+unfolding unpack piece
+pieces a b c d =
+    let whole : (n : ℕ) → n / 2 ^ 0 ≡ n = λ n. omega arith in
+    λ i. record {
+      version = a / 2 ^ 60 % 2 ^ 4;
+      kind = a / 2 ^ 58 % 2 ^ 2;
+      count = a / 2 ^ 54 % 2 ^ 4;
+      spare = a / 2 ^ 48 % 2 ^ 6;
+      length = record { 0 = a / 2 ^ 28 % 2 ^ 20 };
+      depth = record { 0 = a / 2 ^ 12 % 2 ^ 16 };
+      moulded = record { 0 = whole a i % 2 ^ 12 * 2 ^ 4 + b / 2 ^ 28 % 2 ^ 4 };
+      block = b / 2 ^ 14 % 2 ^ 14;
+      waterplane = whole b i % 2 ^ 14;
+      sheer =
+          ordinate-piece c 42 i ∷ ordinate-piece c 28 i ∷ ordinate-piece c 14 i
+          ∷ (ordinate-piece c 0 ∙ ap ordinateIn (whole c)) i ∷ ordinate-piece d 50 i ∷ ordinate-piece d 36 i ∷ [];
+      displacement = d / 2 ^ 16 % 2 ^ 20;
+      immersion = whole d i % 2 ^ 16;
+    }
+
+-- the word of the m bytes from n on
+abbrev part : List ℕ → ℕ → ℕ → ℕ
+part s n m = number (take m (drop n s))
+
+module _ (s : List ℕ) (bs : Bytes s) (h : 27 ≤ length s) where
+  words : unpack cut (number (take 27 s)) ≡ unpack firstWidths (part s 0 8) ++ unpack fullnessWidths (part s 8 4) ++ unpack fourWidths (part s 12 7) ++ unpack lastWidths (part s 19 8)
+  unfolding unpack
+  words =
+      unpack-parts s 19 8 (omega arith) bs (firstWidths ++ fullnessWidths ++ fourWidths) lastWidths refl
+      ∙ ap (λ (l : List ℕ). l ++ unpack lastWidths (part s 19 8)) (unpack-parts s 12 7 (omega arith) bs (firstWidths ++ fullnessWidths) fourWidths refl
+      ∙ ap (λ (l : List ℕ). l ++ unpack fourWidths (part s 12 7)) (unpack-parts s 8 4 (omega arith) bs firstWidths fullnessWidths refl))
+
+  pub head-words : headIn s ≡ headOfWords (part s 0 8) (part s 8 4) (part s 19 8) (sheerIn (part s 12 7) (part s 19 8))
+  unfolding headIn
+  head-words = ap headOf (join-cut (number (take 27 s)) ∙ ap joined words) ∙ pieces (part s 0 8) (part s 8 4) (part s 12 7) (part s 19 8)

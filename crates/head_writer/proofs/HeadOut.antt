@@ -1,0 +1,70 @@
+-- The head's bytes are those of four words, one after the other.
+use Prim.Native.Nat.{ℕ, _+_, _-_, _*_, _/_, _%_, _^_, _≤_}
+use mathlib.Core.List.{List, _∷_, _++_}
+use mathlib.Core.Path.{_≡_, refl, sym, ap, ap₂, _∙_}
+use lib.ListN.{length, take, drop, length-append, length-drop}
+use lib.Seq.{length-take-le}
+use native.Mathlib.Omega.{arith}
+use Rattle.bits.specs.Fields.{total, pack, bytes, Fit}
+use Rattle.bits.proofs.Radix.{pack-append, length-bytes}
+use Rattle.bits.proofs.Fill.{two-parts}
+use Rattle.bits.proofs.Joined.{bytes-pack}
+use Rattle.record.specs.declared.Head.{Head}
+use Rattle.record.specs.Layout.{headWidths, headFields, headBytes}
+use Rattle.record.specs.Words.{firstWidths, fullnessWidths, fourWidths, lastWidths, firstFields, fullnessFields, fourFields, lastFields}
+use Rattle.bits.proofs.Cut.{value-cut}
+
+-- two words over two parts of a slice that they fill
+pub two-words : (d : List ℕ) (a A B : ℕ) {p q : List ℕ} → a ≤ length d
+    → let x = p ++ drop a d in
+    p ≡ bytes (length (take a d)) A → q ≡ bytes (length (take (length x - a) (drop a x))) B
+    → take a x ++ (q ++ drop (length x - a) (drop a x)) ≡ bytes a A ++ bytes (length d - a) B
+two-words d a A B {p} {q} h ep eq =
+    let x : List ℕ = p ++ drop a d in
+    let b : ℕ = length d - a in
+    let p′ : p ≡ bytes a A = ep ∙ ap (λ (k : ℕ). bytes k A) (length-take-le a d h) in
+    let lp : length p ≡ a = ap length p′ ∙ length-bytes a A in
+    let lx : length x - a ≡ b = omega (arith, length-append p (drop a d), length-drop a d) in
+    let lq : length (take (length x - a) (drop a x)) ≡ b = length-take-le (length x - a) (drop a x) (omega (arith, length-drop a x)) ∙ lx in
+    ap (λ (m : ℕ). take a x ++ (q ++ drop m (drop a x))) lx
+    ∙ two-parts d p q a b lp (omega arith) ∙ ap₂ _++_ p′ (eq ∙ ap (λ (k : ℕ). bytes k B) lq)
+
+-- and two such pairs over the head's 27 bytes
+pub two-halves : (d : List ℕ) (A B C D : ℕ) {p q : List ℕ} → length d ≡ 27
+    → let x = p ++ drop 12 d in
+    p ≡ bytes 8 A ++ bytes (length (take 12 d) - 8) B → q ≡ bytes 7 C ++ bytes (length (take 15 (drop 12 x)) - 7) D
+    → take 12 x ++ (q ++ drop 15 (drop 12 x)) ≡ (bytes 8 A ++ bytes 4 B) ++ (bytes 7 C ++ bytes 8 D)
+two-halves d A B C D {p} {q} h ep eq =
+    let x : List ℕ = p ++ drop 12 d in
+    let p′ : p ≡ bytes 8 A ++ bytes 4 B = ep ∙ ap (λ (k : ℕ). bytes 8 A ++ bytes (k - 8) B) (length-take-le 12 d (omega arith)) in
+    let lp : length p ≡ 12 = ap length p′ ∙ omega (arith, length-append (bytes 8 A) (bytes 4 B), length-bytes 8 A, length-bytes 4 B) in
+    let lq : length (take 15 (drop 12 x)) ≡ 15 =
+    length-take-le 15 (drop 12 x) (omega (arith, length-drop 12 x, length-append p (drop 12 d), length-drop 12 d)) in
+    two-parts d p q 12 15 lp h ∙ ap₂ _++_ p′ (eq ∙ ap (λ (k : ℕ). bytes 7 C ++ bytes (k - 7) D) lq)
+
+-- M written whole, and cut
+pack-cut : (us vs : List ℕ) (v : ℕ) → pack (16 ∷ us) (v ∷ vs) ≡ pack (12 ∷ 4 ∷ us) (v / 2 ^ 4 ∷ v % 2 ^ 4 ∷ vs)
+unfolding pack
+pack-cut us vs v = value-cut v 4 (total us) (pack us vs)
+
+module _ (h : Head) (f : Fit headWidths (headFields h)) where
+  cut : pack headWidths (headFields h) ≡ pack ((firstWidths ++ fullnessWidths) ++ (fourWidths ++ lastWidths)) ((firstFields h ++ fullnessFields h) ++ (fourFields h ++ lastFields h))
+  cut =
+      let ws = take 6 headWidths in
+      let us = drop 7 headWidths in
+      let vs = take 6 (headFields h) in
+      let xs = drop 7 (headFields h) in
+      let m = h .moulded .0 in
+      pack-append ws (16 ∷ us) vs (m ∷ xs) refl
+      ∙ ap (λ (n : ℕ). pack ws vs * 2 ^ total (16 ∷ us) + n) (pack-cut us xs m)
+      ∙ sym (pack-append ws (12 ∷ 4 ∷ us) vs (m / 2 ^ 4 ∷ m % 2 ^ 4 ∷ xs) refl)
+
+  pub four-words : headBytes h
+      ≡ (bytes 8 (pack firstWidths (firstFields h)) ++ bytes 4 (pack fullnessWidths (fullnessFields h))) ++ (bytes 7 (pack fourWidths (fourFields h)) ++ bytes 8 (pack lastWidths (lastFields h)))
+  unfolding headBytes
+  four-words =
+      ap (bytes 27) cut
+      ∙ bytes-pack 12 15 (firstWidths ++ fullnessWidths) (fourWidths ++ lastWidths) (firstFields h ++ fullnessFields h) (fourFields h ++ lastFields h) refl refl (omega arith)
+      ∙ ap₂ _++_
+      (bytes-pack 8 4 firstWidths fullnessWidths (firstFields h) (fullnessFields h) refl refl (omega arith))
+      (bytes-pack 7 8 fourWidths lastWidths (fourFields h) (lastFields h) refl refl (omega arith))

@@ -1,0 +1,26 @@
+use native.Mathlib.Omega.{arith}
+use borrow.Author.Needs.{needs}
+use Rattle.bits.specs.Fields.{pack}
+use Rattle.head_writer.proofs.four_word.Statement.{statement}
+use Rattle.head_writer.proofs.four_word.Tie as tie
+
+pub four-word-spec : {M : Type 1} → statement M
+unfolding pack
+four-word-spec =
+    tie.close
+    (tie.spec
+    (λ c. search needs)
+    (λ c κs. search needs)
+    (λ c. search needs)
+    (λ c. search needs)
+    (λ c κs. search needs)
+    (λ c. search needs)
+    (λ c. search needs)
+    (λ c. search needs)
+    (λ c κs. search needs)
+    (λ c. search needs)
+    (λ c. search needs)
+    (λ c. search needs)
+    (λ c κs. search needs)
+    (λ c. search needs)
+    (λ c. omega arith))

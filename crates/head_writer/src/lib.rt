@@ -1,0 +1,77 @@
+// The head of a record as four words, written over its 27 bytes: in a word each field shifts those before it up by its range.
+ghost use mathlib.Core.Path.{_≡_};
+ghost use Prim.Native.Nat.{_-_, _≤_};
+ghost use mathlib.Core.List.{_++_};
+ghost use lib.ListN.{length};
+ghost use Rattle.bits.specs.Fields.{pack, bytes, Fit};
+ghost use Rattle.record.specs.Layout.{headWidths, headFields, headBytes};
+ghost use Rattle.record.specs.Words.{firstWidths, fullnessWidths, fourWidths, lastWidths, firstFields, fullnessFields, fourFields, lastFields};
+use record::Head;
+use record::range;
+
+// Version, type, houses n, spare, L, D and the first bits of M.
+fn first_word(h: Head) -> u64
+    requires { ⌜ Fit headWidths (headFields h) ⌝ }
+    ensures { λ r. ⌜ r ≡ pack firstWidths (firstFields h) ⌝ }
+{
+    let word = h.version * range::KIND + h.kind;
+    let word = word * range::COUNT + h.count;
+    let word = word * range::SPARE + h.spare;
+    let word = word * range::LENGTH + h.length.0;
+    let word = word * range::DEPTH + h.depth.0;
+    word * range::MOULDED_FIRST + h.moulded.0 / range::MOULDED_LAST
+}
+
+// The last bits of M, Cb and Cwf.
+fn fullness_word(h: Head) -> u64
+    requires { ⌜ Fit headWidths (headFields h) ⌝ }
+    ensures { λ r. ⌜ r ≡ pack fullnessWidths (fullnessFields h) ⌝ }
+{
+    let word = h.moulded.0 % range::MOULDED_LAST * range::BLOCK + h.block;
+    word * range::WATERPLANE + h.waterplane
+}
+
+// The first four ordinates of sheer.
+fn four_word(h: Head) -> u64
+    ensures { λ r. ⌜ r ≡ pack fourWidths (fourFields h) ⌝ }
+{
+    let o = h.sheer;
+    let word = record::ordinate_field(o[0]);
+    let word = word * range::ORDINATE + record::ordinate_field(o[1]);
+    let word = word * range::ORDINATE + record::ordinate_field(o[2]);
+    word * range::ORDINATE + record::ordinate_field(o[3])
+}
+
+// The last two, displacement and immersion.
+fn last_word(h: Head) -> u64
+    requires { ⌜ Fit headWidths (headFields h) ⌝ }
+    ensures { λ r. ⌜ r ≡ pack lastWidths (lastFields h) ⌝ }
+{
+    let o = h.sheer;
+    let word = record::ordinate_field(o[4]);
+    let word = word * range::ORDINATE + record::ordinate_field(o[5]);
+    let word = word * range::DISPLACEMENT + h.displacement;
+    word * range::IMMERSION + h.immersion
+}
+
+// Writes two words over the whole of `out`, the second from byte `at` on.
+fn put_two(out: &mut [u8], at: usize, a: u64, b: u64)
+    requires { ⌜ (at ≤ 8) × (at ≤ length (now out)) × (length (now out) - at ≤ 8) ⌝ }
+    ensures { λ _. ⌜ now (out .exit) ≡ bytes at a ++ bytes (length (now (out .entry)) - at) b ⌝ }
+{
+    bits::put_word(&mut out[..at], a);
+    bits::put_word(&mut out[at..], b);
+}
+
+// Writes a head over 27 bytes.
+pub fn write(out: &mut [u8], h: Head)
+    requires { ⌜ (length (now out) ≡ 27) × Fit headWidths (headFields h) ⌝ }
+    ensures { λ _. ⌜ now (out .exit) ≡ headBytes h ⌝ }
+{
+    let first = first_word(h);
+    let fullness = fullness_word(h);
+    let four = four_word(h);
+    let last = last_word(h);
+    put_two(&mut out[0..12], 8, first, fullness);
+    put_two(&mut out[12..27], 7, four, last);
+}

@@ -1,0 +1,48 @@
+-- The parts give the whole: a hull and a deck of one ship have its summer mark.
+use Prim.Native.Nat.{ℕ, _+_, _-_}
+use mathlib.Core.Bool.{Bool}
+use mathlib.Core.List.{List}
+use mathlib.Core.Path.{_≡_, ap, ap₂}
+use native.Mathlib.Omega.{arith}
+use Rattle.whole.specs.Pick.{pick}
+use Rattle.units.specs.Datum.{lift, sheerAt}
+use Rattle.percentages.specs.Table37.{ordinaryRow}
+use Rattle.ship.specs.declared.Ship.{Ship}
+use Rattle.ship.specs.Vessel.{housesOf}
+use Rattle.houses.specs.Length.{partOf}
+use Rattle.houses.specs.Effective.{exactEffective, effectiveOf}
+use Rattle.houses.specs.Forecastle.{forecastleOf}
+use Rattle.corrections.specs.Fullness30.{counted}
+use Rattle.deduction.specs.Deduction37.{deduction, deducted}
+use Rattle.corrections.specs.Gathered as Before
+use Rattle.deduction.proofs.Deduction37.{lacks-rounded}
+use Rattle.sheer.specs.Sheer as Sheer
+use Rattle.bow.specs.Bow.{higher, lower, sheerTaken, forecastleTaken, bowFreeboard}
+use Rattle.mark.specs.Summer.{summerMark}
+use Rattle.deck.specs.Deck.{deckOf}
+use Rattle.steps.specs.Steps.{typeB, basis, coveredS, effectiveE, forecastleHouse, coverReach, addedTo, takenFrom, bowOf, summerOf}
+use Rattle.hull.specs.Parts.{hullOf, addedOn, takenOn, bowOn, summerOn}
+
+-- 37's test on the length that is rounded down is the one on the fraction
+taken-parts : (row : List ℕ) (x : Ship) → takenOn row (hullOf x) (deckOf (x .length .0) (housesOf x)) ≡ takenFrom row x
+unfolding takenOn hullOf deckOf takenFrom coveredS effectiveE forecastleHouse coverReach effectiveOf deducted Sheer.deducted
+taken-parts row x =
+    let l = x .length .0 in
+    ap (λ (t : Bool). pick t 0 (deduction row l (effectiveE x)) + Sheer.deducted (x .sheer) l (coveredS x) (coverReach x))
+    (lacks-rounded (typeB x) (exactEffective l (forecastleOf l (housesOf x))) l)
+
+bow-parts : (x : Ship) → bowOn (hullOf x) (deckOf (x .length .0) (housesOf x)) ≡ bowOf x
+unfolding bowOn hullOf deckOf bowOf forecastleHouse bowFreeboard
+bow-parts x =
+    let l = x .length .0 in
+    let cb = counted (x .block) in
+    let low = lower l (x .moulded .0) cb (x .waterplane) in
+    let s = sheerTaken (sheerAt (x .sheer) 4) (sheerAt (x .sheer) 5) in
+    let f = forecastleOf l (housesOf x) in
+    let t = forecastleTaken l (partOf l f) (f .height .0) in
+    let e : low + s + t ≡ low + (s + t) = omega arith in
+    ap (λ (n : ℕ). higher l (x .moulded .0) cb (x .waterplane) + sheerTaken (sheerAt (x .sheer) 4) lift - n) e
+
+pub summer-parts : (x : Ship) → summerOn (hullOf x) (deckOf (x .length .0) (housesOf x)) ≡ summerOf x
+unfolding summerOn addedOn hullOf deckOf summerOf addedTo coveredS effectiveE Before.added Sheer.added
+summer-parts x = ap₂ (summerMark (basis x .floor) (addedTo x)) (taken-parts ordinaryRow x) (bow-parts x)

@@ -1,0 +1,22 @@
+use mathlib.Core.Path.{refl}
+use native.Mathlib.Omega.{arith}
+use borrow.Author.Needs.{needs}
+use Rattle.hull.specs.Parts.{addedOn}
+use Rattle.hull.proofs.summer.added.Statement.{statement}
+use Rattle.hull.proofs.summer.added.Tie as tie
+
+pub added-spec : {M : Type 1} → statement M
+unfolding addedOn
+added-spec =
+    tie.close
+    (tie.spec
+    (λ c κs. search needs)
+    (λ c κs. search needs)
+    (λ c κs. search needs)
+    (λ c κs. search needs)
+    (λ c.
+    let s = c .before in
+    let m = s .before in
+    let e = m .before in
+    let a = e .before .before in
+    (rw (c .sum2 .ensures, s .sum .ensures, m .made-full .ensures .0, e .effective-length .ensures, a .pre .1) refl, omega (arith, c .sum2 .ensures, s .sum .ensures))))

@@ -1,0 +1,22 @@
+use mathlib.Core.Path.{refl}
+use borrow.Author.Needs.{needs}
+use Rattle.deduction.specs.Deduction37.{deducted}
+use Rattle.hull.specs.Parts.{takenOn}
+use Rattle.hull.proofs.summer.taken.Statement.{statement}
+use Rattle.hull.proofs.summer.taken.Tie as tie
+
+pub taken-spec : {M : Type 1} → statement M
+unfolding takenOn deducted
+taken-spec =
+    tie.close
+    (tie.spec
+    (λ c κs. search needs)
+    (λ c κs. search needs)
+    (λ c κs. search needs)
+    (λ c κs. search needs)
+    (λ c.
+    let g = c .before in
+    let f = g .before in
+    let e = f .before in
+    let s = e .before .before .before in
+    rw (c .sum .ensures, g .if-granted .ensures .0, f .deduction-by .ensures .0, e .effective-length .ensures, s .pre .2) refl))

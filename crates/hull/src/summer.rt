@@ -1,0 +1,65 @@
+// The steps to the summer mark, put together: what is added, what is taken, and the mark, of a hull and a deck.
+ghost use mathlib.Core.Path.{_≡_};
+ghost use Prim.Native.Nat.{_+_, _*_, _≤_, _^_};
+ghost use Rattle.whole.specs.Pick.{pick};
+ghost use Rattle.percentages.specs.Table37.{entries};
+ghost use Rattle.deduction.specs.Deduction37.{deduction};
+ghost use Rattle.deck.specs.Deck.{FairDeck};
+ghost use Rattle.sheer.specs.Sheer as Sheer;
+ghost use Rattle.hull.specs.Parts.{addedOn, takenOn, summerOn, FairHull};
+use crate::Hull;
+use corrections::before_sheer;
+use deck::Deck;
+use percentages::Row;
+use units::Effective;
+use units::Freeboard;
+use units::Span;
+
+// The houses' deduction (37) for an effective length `e`, by a row of percentages.
+fn deduction_by(row: Row, l: Span, e: Effective) -> Freeboard
+    requires { ⌜ (24000 ≤ l .0) × (l .0 ≤ 365000) × (e .0 ≤ 1000 * l .0) ⌝ }
+    ensures { λ r. ⌜ r .0 ≡ deduction (entries row) (l .0) (e .0) ⌝ }
+    ensures { λ r. ⌜ r .0 ≤ 1070000 ⌝ }
+{
+    let j = deduction::tenth_of(l, e);
+    let p = percentages::percentage(row, j);
+    let q = percentages::percentage(row, j + 1);
+    deduction::of_full(l, deduction::share(p, q, l, e))
+}
+
+// What is added: the line, made greater for short B ships (29) and fullness (30), then depth (31), then sheer where it is lacking (38).
+fn added(h: Hull, d: Deck, lacking: Freeboard) -> Freeboard
+    requires { ⌜ FairHull h × (lacking .0 ≡ Sheer.addition (h .mean .deficiency .0) (h .length .0) (d .s .0)) × (lacking .0 ≤ 9000000) ⌝ }
+    ensures { λ r. ⌜ r .0 ≡ addedOn h d ⌝ }
+    ensures { λ r. ⌜ r .0 ≤ 2 ^ 32 ⌝ }
+{
+    let line = h.basis.line;
+    let full = before_sheer::made_full(line, h.b, h.length, h.block, deck::effective_length(d));
+    units::sum(units::sum(full, h.deep), lacking)
+}
+
+// What is taken: the houses' deduction (37) by a row of percentages, and sheer where it is in excess (38).
+fn taken(row: Row, h: Hull, d: Deck, excess: Freeboard) -> Freeboard
+    requires { ⌜ FairHull h × FairDeck (h .length .0) d × (excess .0 ≡ Sheer.deduction (h .mean .excess .0) (h .length .0) (d .s .0) (d .reach)) × (excess .0 ≤ 456250) ⌝ }
+    ensures { λ r. ⌜ r .0 ≡ takenOn (entries row) h d ⌝ }
+{
+    let l = h.length;
+    let forecastle = d.forecastle;
+    let full = deduction_by(row, l, deck::effective_length(d));
+    let granted = deduction::if_granted(h.b, forecastle.effective, l, full);
+    units::sum(granted, excess)
+}
+
+// The summer mark of a hull and a deck, in millimetres.
+pub fn summer_on(h: Hull, d: Deck) -> u64
+    requires { ⌜ FairHull h × FairDeck (h .length .0) d ⌝ }
+    ensures { λ r. ⌜ r ≡ summerOn h d ⌝ }
+{
+    let l = h.length;
+    let forecastle = d.forecastle;
+    let c = sheer_correction::correct(h.mean, l, d.s, d.reach);
+    let gained = added(h, d, c.added);
+    let lost = taken(Row::Ordinary, h, d, c.deducted);
+    let bow = bow::freeboard(h.bow, l, forecastle.part, forecastle.height);
+    mark::summer(h.basis.floor, gained, lost, bow)
+}

@@ -1,0 +1,241 @@
+-- Reading a written record gives the ship back, and writing an accepted record's ship gives its bytes back.
+use Prim.Native.Nat.{ℕ, zero, suc, _+_, _-_, _*_, _^_, _≤_, _<_}
+use mathlib.Core.List.{List, [], _∷_, _++_, append-nil}
+use mathlib.Core.Path.{_≡_, refl, sym, ap, subst, _∙_}
+use lib.ListN.{length, take, drop, getD, replicate, length-append, length-drop, take-append-drop}
+use lib.Seq.{take-at, drop-at, drop-drop, drop-append-add, length-take-le, ext-getD, take-all}
+use native.Mathlib.Decide.{decLt}
+use native.Mathlib.Omega.{arith}
+use Rattle.whole.specs.Pick.{pick}
+use Rattle.bits.specs.Fields.{number, pack, unpack, bytes, Fit, Bytes}
+use Rattle.bits.proofs.Radix.{read-written, written-read, bytes-take, bytes-drop}
+use Rattle.units.specs.declared.Ordinate.{Ordinate}
+use Rattle.units.specs.Datum.{lift, sheerAt, Lifted}
+use Rattle.ship.specs.declared.House.{House}
+use Rattle.ship.specs.declared.Ship.{Ship}
+use Rattle.ship.specs.Vessel as Vessel
+use Rattle.ship.specs.Vessel.{noHouse, housesOf, clean}
+use Rattle.ship.specs.Refusals.{Paper, accepted, first}
+use Rattle.ship.specs.Checks.{fieldLines, houseLines, shipLines}
+use Rattle.ship.specs.Good.{Good}
+use Rattle.ship.proofs.Lines.{first-passed}
+use Rattle.ship.proofs.Accepted.{good}
+use Rattle.record.specs.declared.Head.{Head}
+use Rattle.record.specs.Layout.{recordLength, turn, headWidths, headFields, headOf, headBytes, headIn, shipHead, shipOf, placesIn, shipIn, recordBytes, housesBytes, housesIn, houseAt, spareIn}
+use Rattle.record.specs.Reading.{sparesIn, readingIn}
+use Rattle.record.specs.Writing.{writingOf}
+use Rattle.record.proofs.Complement.{turn-turn}
+use Rattle.record.proofs.Parts.{length-headBytes, length-housesBytes, length-housesIn, head-within}
+use Rattle.record.proofs.Framed.{passes-all, ship-is, Framed, frame-passed, frame-passes, reading-framed}
+use Rattle.record.proofs.Written.{head-fits, writing-accepted}
+use Rattle.record.proofs.House.{Held, AllHeld, houses-back, houses-there, house-at, spare-back}
+
+-- what the types of a ship's arrays say
+pub record Shaped (x : Ship) : Type 0 where
+  pub eight : length (x .houses) ≡ 8
+  pub six : length (x .sheer) ≡ 6
+
+-- six ordinates by their places
+abbrev places : (ℕ → ℕ) → List Ordinate
+places f = record { 0 = f 0 } ∷ record { 0 = f 1 } ∷ record { 0 = f 2 } ∷ record { 0 = f 3 } ∷ record { 0 = f 4 } ∷ record { 0 = f 5 } ∷ []
+
+six-of : (o : List Ordinate) → length o ≡ 6 → places (sheerAt o) ≡ o
+six-of o e = ext-getD (record { 0 = 0 }) _ o (sym e) (λ i h. below i (omega arith))
+  where
+    below : (i : ℕ) → i < 6 → getD (places (sheerAt o)) i (record { 0 = 0 }) ≡ getD o i (record { 0 = 0 })
+    below zero h = refl
+    below (suc zero) h = refl
+    below (suc (suc zero)) h = refl
+    below (suc (suc (suc zero))) h = refl
+    below (suc (suc (suc (suc zero)))) h = refl
+    below (suc (suc (suc (suc (suc zero))))) h = refl
+    below (suc (suc (suc (suc (suc (suc i)))))) h = absurd (omega arith)
+
+-- ---- a head, read from what was written
+-- the bits of the head's fields
+abbrev fieldsIn : List ℕ → List ℕ
+fieldsIn s = unpack headWidths (number (take 27 s))
+
+head-fields : (h : Head) → length (h .sheer) ≡ 6 → Lifted (h .sheer) → headOf (headFields h) ≡ h
+head-fields h six l =
+    let o = h .sheer in
+    let e : places (λ k. turn lift (turn lift (sheerAt o k))) ≡ o =
+    (λ i. record { 0 = turn-turn lift (sheerAt o 0) (l .ap) i } ∷ record { 0 = turn-turn lift (sheerAt o 1) (l .after-sixth) i } ∷ record { 0 = turn-turn lift (sheerAt o 2) (l .after-third) i }
+    ∷ record { 0 = turn-turn lift (sheerAt o 3) (l .forward-third) i } ∷ record { 0 = turn-turn lift (sheerAt o 4) (l .forward-sixth) i } ∷ record { 0 = turn-turn lift (sheerAt o 5) (l .fp) i } ∷ []) ∙ six-of o six in
+    λ i. record {
+      version = h .version;
+      kind = h .kind;
+      count = h .count;
+      spare = h .spare;
+      length = h .length;
+      depth = h .depth;
+      moulded = h .moulded;
+      block = h .block;
+      waterplane = h .waterplane;
+      sheer = e i;
+      displacement = h .displacement;
+      immersion = h .immersion;
+    }
+
+pub head-back : (h : Head) → length (h .sheer) ≡ 6 → Lifted (h .sheer) → Fit headWidths (headFields h) → (rest : List ℕ) → headIn (headBytes h ++ rest) ≡ h
+unfolding headIn headBytes
+head-back h six l f rest =
+    ap (λ (t : List ℕ). headOf (unpack headWidths (number t))) (take-at (headBytes h) rest 27 (length-headBytes h))
+    ∙ ap headOf (read-written headWidths 27 refl (headFields h) f) ∙ head-fields h six l
+
+-- ---- and written from what was read
+fields-head : (s : List ℕ) → headFields (headOf (fieldsIn s)) ≡ fieldsIn s
+unfolding unpack
+fields-head s =
+    let v : (k : ℕ) → ℕ = λ k. getD (fieldsIn s) k 0 in
+    let w : (k : ℕ) → v k < 2 ^ getD headWidths k 0 = head-within s in
+    λ i. v 0 ∷ v 1 ∷ v 2 ∷ v 3 ∷ v 4 ∷ v 5 ∷ v 6 ∷ v 7 ∷ v 8
+    ∷ turn-turn lift (v 9) (w 9) i ∷ turn-turn lift (v 10) (w 10) i ∷ turn-turn lift (v 11) (w 11) i
+    ∷ turn-turn lift (v 12) (w 12) i ∷ turn-turn lift (v 13) (w 13) i ∷ turn-turn lift (v 14) (w 14) i ∷ v 15 ∷ v 16 ∷ []
+
+pub head-there : (s : List ℕ) → Bytes s → 27 ≤ length s → headBytes (headIn s) ≡ take 27 s
+unfolding headIn headBytes
+head-there s b l =
+    ap (λ (v : List ℕ). bytes 27 (pack headWidths v)) (fields-head s) ∙ written-read headWidths 27 refl (take 27 s) (bytes-take 27 s b) (length-take-le 27 s l)
+
+-- the spare bits of houses, added up, are 0 where none is set, and only there
+none-spare : (s : List ℕ) (n : ℕ) → ((k : ℕ) → k < n → spareIn (houseAt s k) ≡ 0) → sparesIn s n ≡ 0
+unfolding sparesIn
+none-spare s zero f = refl
+none-spare s (suc n) f = omega (arith, none-spare s n (λ k h. f k (omega arith)), f n (omega arith))
+
+no-spare : (s : List ℕ) (n : ℕ) → sparesIn s n ≡ 0 → (k : ℕ) → k < n → spareIn (houseAt s k) ≡ 0
+unfolding sparesIn
+no-spare s zero e k h = absurd (omega arith)
+no-spare s (suc n) e k h =
+    elim (decLt k n) [
+      | yes l ↦ no-spare s n (omega arith) k l
+      | no g ↦ (let q : k ≡ n = omega arith in rw q (omega arith))
+    ]
+
+all-held : (hs : List House) → ((i : ℕ) → i < length hs → Held (Vessel.houseAt hs i)) → AllHeld hs
+all-held [] f = tt
+all-held (h ∷ hs) f = (f 0 (omega arith), all-held hs (λ i q. f (suc i) (omega arith)))
+
+-- ---- what the writer accepts, the reader reads back
+module _ (x : Ship) (shaped : Shaped x) (k : x .kind ≤ 1) (m : x .n ≤ 8) (passes : first (shipLines x) ≡ accepted) where
+  g : Good x
+  g = good x (ap (λ (p : Paper). p .number) passes)
+
+  count-of : length (housesOf x) ≡ x .n
+  count-of = length-take-le (x .n) (x .houses) (omega (arith, shaped .eight))
+
+  held : (i : ℕ) → i < length (housesOf x) → Held (Vessel.houseAt (housesOf x) i)
+  held i h = let e = g .houses .each i h in let l = g .length-most in record { aft = omega arith; fore = omega arith; height = omega arith }
+
+  head-is : headIn (recordBytes x) ≡ shipHead x
+  unfolding recordBytes
+  head-is = head-back (shipHead x) (shaped .six) (g .sheer) (head-fits x k m g) (housesBytes (housesOf x))
+
+  places-back : placesIn (x .n) (recordBytes x) ≡ clean x .houses
+  unfolding placesIn recordBytes
+  places-back =
+      let hs = housesOf x in
+      let e : housesIn (x .n) (housesBytes hs) ≡ hs =
+      (rw (append-nil (housesBytes hs), count-of) at (houses-back hs (all-held hs held) [])) in
+      rw (drop-at (headBytes (shipHead x)) (housesBytes hs) 27 (length-headBytes (shipHead x)), e) refl
+
+  clean-passes : first (shipLines (clean x)) ≡ accepted
+  clean-passes =
+      let e : housesOf (clean x) ≡ housesOf x = take-at (housesOf x) (replicate (8 - x .n) noHouse) (x .n) count-of in
+      ap (λ (hs : List House). first (fieldLines x ++ houseLines (x .length .0) hs)) e ∙ passes
+
+  ship-back : shipIn (recordBytes x) ≡ clean x
+  unfolding shipIn
+  ship-back = ap (λ (h : Head). shipOf h (placesIn (h .count) (recordBytes x))) head-is ∙ ap (shipOf (shipHead x)) places-back
+
+  pub length-record : length (recordBytes x) ≡ recordLength (x .n)
+  unfolding recordBytes
+  length-record =
+      omega (arith, length-append (headBytes (shipHead x)) (housesBytes (housesOf x)), length-headBytes (shipHead x), length-housesBytes (housesOf x), count-of)
+
+  -- a written house has no spare bit
+  blank-back : (i : ℕ) → i < x .n → spareIn (houseAt (recordBytes x) i) ≡ 0
+  unfolding recordBytes
+  blank-back i h =
+      let hs = housesOf x in
+      let b = headBytes (shipHead x) in
+      let d : drop (27 + 8 * i) (b ++ housesBytes hs) ≡ drop (8 * i) (housesBytes hs) =
+      ap (λ (n : ℕ). drop (n + 8 * i) (b ++ housesBytes hs)) (sym (length-headBytes (shipHead x))) ∙ drop-append-add b (housesBytes hs) (8 * i) in
+      let q : i < length hs = omega (arith, count-of) in
+      rw (d, house-at hs i q) (spare-back (Vessel.houseAt hs i) (held i q .height))
+
+  frame-back : Framed (recordBytes x)
+  frame-back =
+      let e : (P : Head → Type 0) → P (shipHead x) → P (headIn (recordBytes x)) = λ P p. subst P (sym head-is) p in
+      record {
+        long = omega (arith, length-record);
+        first = e (λ h. h .version ≡ 1) refl;
+        type = e (λ h. h .kind ≤ 1) k;
+        few = e (λ h. h .count ≤ 8) m;
+        exact = e (λ h. length (recordBytes x) ≡ recordLength (h .count)) length-record;
+        blank = e (λ h. h .spare + sparesIn (recordBytes x) (h .count) ≡ 0) (omega (arith, none-spare (recordBytes x) (x .n) blank-back));
+      }
+
+  pub read-back : readingIn (recordBytes x) ≡ record { verdict = accepted; ship = clean x }
+  unfolding pick
+  read-back =
+      reading-framed (recordBytes x) (frame-passes (recordBytes x) frame-back)
+      ∙ rw (ship-back, clean-passes) refl
+
+-- ---- what the reader accepts, the writer writes back
+module _ (s : List ℕ) (b : Bytes s) (f : Framed s) where
+  -- the head is that of a ship's record
+  head-whole : shipHead (shipIn s) ≡ headIn s
+  unfolding shipIn
+  head-whole =
+      let h = headIn s in
+      let z : 0 ≡ h .spare = omega (arith, f .blank) in
+      λ i. record {
+        version = sym (f .first) i;
+        kind = h .kind;
+        count = h .count;
+        spare = z i;
+        length = h .length;
+        depth = h .depth;
+        moulded = h .moulded;
+        block = h .block;
+        waterplane = h .waterplane;
+        sheer = h .sheer;
+        displacement = h .displacement;
+        immersion = h .immersion;
+      }
+
+  blank-there : (k : ℕ) → k < headIn s .count → spareIn (take 8 (drop (8 * k) (drop 27 s))) ≡ 0
+  blank-there k h = rw (drop-drop (8 * k) 27 s) (no-spare s (headIn s .count) (omega (arith, f .blank)) k h)
+
+  places-there : housesBytes (housesOf (shipIn s)) ≡ drop 27 s
+  unfolding shipIn placesIn
+  places-there =
+      let n = headIn s .count in
+      let l : length (drop 27 s) ≡ 8 * n = omega (arith, length-drop 27 s, f .exact) in
+      rw (
+        take-at (housesIn n (drop 27 s)) (replicate (8 - n) noHouse) n (length-housesIn n (drop 27 s)),
+        houses-there n (drop 27 s) (bytes-drop 27 s b) (omega arith) blank-there,
+      )
+      (take-all (8 * n) (drop 27 s) (omega arith))
+
+  bytes-there : recordBytes (shipIn s) ≡ s
+  unfolding recordBytes
+  bytes-there = rw (head-whole, head-there s b (f .long), places-there) (take-append-drop 27 s)
+
+module _ (s : List ℕ) (x : Ship) (e : readingIn s ≡ record { verdict = accepted; ship = x }) where
+  pub write-back : Bytes s → recordBytes x ≡ s
+  write-back b = rw (← (ship-is s x e)) (bytes-there s b (frame-passed s (passes-all s x e .0)))
+
+  pub length-there : length s ≡ recordLength (x .n)
+  unfolding shipIn
+  length-there = subst (λ (y : Ship). length s ≡ 27 + 8 * y .n) (ship-is s x e) (frame-passed s (passes-all s x e .0) .exact)
+
+  -- and any buffer with room for it is written
+  pub writes-back : (room : ℕ) → length s ≤ room → writingOf room x ≡ accepted
+  unfolding shipIn
+  writes-back room h =
+      let f = frame-passed s (passes-all s x e .0) in
+      subst (λ (y : Ship). writingOf room y ≡ accepted) (ship-is s x e)
+      (writing-accepted room (shipIn s) (f .type) (f .few) (first-passed (shipLines (shipIn s)) (passes-all s x e .1)) (omega arith))

@@ -1,0 +1,44 @@
+-- The head as four words of whole bytes. M stands across the end of the first: it is cut there, 12 bits and 4.
+-- The contracts of `head_reader::read` and `head_writer::write` speak of the layout alone: nobody needs to believe this page.
+use Prim.Native.Nat.{ℕ, _/_, _%_, _^_}
+use mathlib.Core.List.{List, [], _∷_, _++_}
+use lib.ListN.{take, drop}
+use Rattle.units.specs.declared.Ordinate.{Ordinate}
+use Rattle.record.specs.declared.Head.{Head}
+use Rattle.record.specs.Layout.{headFields, ordinateIn}
+
+-- ---- the widths of the fields in each
+-- version, type, houses n, spare, L, D, the first bits of M
+abbrev pub firstWidths : List ℕ
+firstWidths = 4 ∷ 2 ∷ 4 ∷ 6 ∷ 20 ∷ 16 ∷ 12 ∷ []
+
+-- the last bits of M, Cb, Cwf
+abbrev pub fullnessWidths : List ℕ
+fullnessWidths = 4 ∷ 14 ∷ 14 ∷ []
+
+-- the ordinates of sheer from AP on
+abbrev pub fourWidths : List ℕ
+fourWidths = 14 ∷ 14 ∷ 14 ∷ 14 ∷ []
+
+-- the last two, displacement, immersion
+abbrev pub lastWidths : List ℕ
+lastWidths = 14 ∷ 14 ∷ 20 ∷ 16 ∷ []
+
+-- ---- and the fields themselves
+abbrev pub firstFields : Head → List ℕ
+firstFields h = take 6 (headFields h) ++ (h .moulded .0 / 2 ^ 4 ∷ [])
+
+abbrev pub fullnessFields : Head → List ℕ
+fullnessFields h = h .moulded .0 % 2 ^ 4 ∷ h .block ∷ h .waterplane ∷ []
+
+abbrev pub fourFields : Head → List ℕ
+fourFields h = take 4 (drop 9 (headFields h))
+
+abbrev pub lastFields : Head → List ℕ
+lastFields h = drop 13 (headFields h)
+
+-- the ordinates in the two last words
+abbrev pub sheerIn : ℕ → ℕ → List Ordinate
+sheerIn a b =
+    ordinateIn (a / 2 ^ 42) ∷ ordinateIn (a / 2 ^ 28) ∷ ordinateIn (a / 2 ^ 14) ∷ ordinateIn a
+    ∷ ordinateIn (b / 2 ^ 50) ∷ ordinateIn (b / 2 ^ 36) ∷ []

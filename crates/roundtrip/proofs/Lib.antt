@@ -1,3 +1,0 @@
-pub mod House
-pub mod RoundTrip
-pub mod Theorems

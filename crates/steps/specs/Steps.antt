@@ -1,0 +1,70 @@
+-- 01, "Steps to the summer mark", put together for a ship. Each step is the definition of its own regulation's crate.
+use Prim.Native.Nat.{ℕ, _+_, _≤_}
+use mathlib.Core.Bool.{Bool}
+use mathlib.Core.List.{List}
+use lib.Dec.{eqb}
+use Rattle.units.specs.Datum.{sheerAt}
+use Rattle.percentages.specs.Table37.{ordinaryRow}
+use Rattle.ship.specs.declared.House.{House}
+use Rattle.ship.specs.declared.Ship.{Ship}
+use Rattle.ship.specs.Vessel.{housesOf}
+use Rattle.ship.specs.Good.{Good}
+use Rattle.houses.specs.Length.{partOf, coveredLength}
+use Rattle.houses.specs.Effective.{exactEffective, effectiveLength}
+use Rattle.houses.specs.Forecastle.{forecastleOf}
+use Rattle.houses.specs.Cover.{reach}
+use Rattle.corrections.specs.Fullness30.{counted}
+use Rattle.corrections.specs.Gathered as Before
+use Rattle.deduction.specs.Deduction37.{deducted}
+use Rattle.sheer.specs.Sheer as Sheer
+use Rattle.bow.specs.Bow.{bowFreeboard}
+use Rattle.mark.specs.Summer.{summerMark}
+use Rattle.steps.specs.Basis.{Basis, basisOf}
+
+-- a ship that the reader accepts
+pub record Sound (x : Ship) : Type 0 where
+  pub type : x .kind ≤ 1
+  pub few : x .n ≤ 8
+  pub good : Good x
+
+abbrev pub typeB : Ship → Bool
+typeB x = eqb (x .kind) 1
+
+-- houses (33-35): S in mm, E in um, the forecastle, and the reach of the cover in tenths of a mm
+unfoldable pub coveredS : Ship → ℕ
+coveredS x = coveredLength (x .length .0) (housesOf x)
+
+unfoldable pub effectiveE : Ship → ℕ
+effectiveE x = effectiveLength (x .length .0) (housesOf x)
+
+unfoldable pub forecastleHouse : Ship → House
+forecastleHouse x = forecastleOf (x .length .0) (housesOf x)
+
+unfoldable pub coverReach : Ship → ℕ
+coverReach x = reach (x .length .0) (housesOf x)
+
+-- table (28), with 40's least freeboard
+abbrev pub basis : Ship → Basis
+basis x = basisOf (typeB x) (x .length .0)
+
+-- what is added: the table, short B ships (29), fullness (30), depth (31), and sheer (38) where it is lacking; by the Cb that counts
+unfoldable pub addedTo : Ship → ℕ
+addedTo x =
+    Before.added (basis x .line) (typeB x) (x .length .0) (x .depth .0) (counted (x .block)) (effectiveE x)
+    + Sheer.added (x .sheer) (x .length .0) (coveredS x)
+
+-- what is taken away: the houses' deduction (37) by a row of percentages, and sheer (38) in excess
+unfoldable pub takenFrom : List ℕ → Ship → ℕ
+takenFrom row x =
+    deducted (typeB x) row (exactEffective (x .length .0) (forecastleHouse x)) (x .length .0) (effectiveE x)
+    + Sheer.deducted (x .sheer) (x .length .0) (coveredS x) (coverReach x)
+
+-- bow height (39)
+unfoldable pub bowOf : Ship → ℕ
+bowOf x =
+    bowFreeboard (x .length .0) (x .moulded .0) (counted (x .block)) (x .waterplane) (sheerAt (x .sheer) 4) (sheerAt (x .sheer) 5)
+    (partOf (x .length .0) (forecastleHouse x)) (forecastleHouse x .height .0)
+
+-- mark (40): up to whole mm, and at least the floor
+unfoldable pub summerOf : Ship → ℕ
+summerOf x = summerMark (basis x .floor) (addedTo x) (takenFrom ordinaryRow x) (bowOf x)

@@ -1,0 +1,40 @@
+-- Each field is what the contract of its own call says.
+use mathlib.Core.Path.{_≡_, ap}
+use lib.ListN.{length, length-map}
+use borrow.Author.Needs.{needs}
+use Rattle.hull.specs.declared.Hull.{Hull}
+use Rattle.hull.specs.Parts.{hullOf}
+use Rattle.trial.specs.Standing.{standingOf}
+use Rattle.trial.proofs.Trial.{fair-standing}
+use Rattle.trial.proofs.standing_of.Statement.{statement}
+use Rattle.trial.proofs.standing_of.Tie as tie
+
+-- a ship has eight places
+eight : (s : tie.Start) → length (s .args .x .houses) ≡ 8
+eight s = simp length-map at (s .good .0 .1 .1 .1 .1 .1 .1 .1 .1 .1 .1 .1 .1 .0 .1 .0 .1)
+
+pub standing-of-spec : {M : Type 1} → statement M
+unfolding standingOf hullOf
+standing-of-spec =
+    tie.close
+    (tie.spec
+    (λ c κs. search needs)
+    (λ c κs. search needs)
+    (λ c κs. search needs)
+    (λ c κs. ap (λ (h : Hull). h .basis .floor) (c .before .before .hull-of .ensures .0))
+    (λ c.
+    let r = c .before in
+    let d = r .before in
+    let h = d .before in
+    let s = h .before .before in
+    let a = s .args in
+    let e : _ ≡ standingOf (a .x) (a .height .0) (a .wish) =
+    λ i. record {
+      hull = h .hull-of .ensures .0 i;
+      deck = d .deck-of .ensures .0 i;
+      room = record { 0 = r .room-of .ensures i };
+      particulars = c .particulars-of .ensures i;
+      height = a .height;
+      wish = a .wish;
+    } in
+    (e, rw e (fair-standing (a .x) (s .pre .0) (s .pre .1) (eight s) (a .height .0) (a .wish) (s .pre .2) (s .pre .3) (rw (h .hull-of .ensures .0) at (h .hull-of .ensures .1))))))

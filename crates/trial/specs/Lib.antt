@@ -1,0 +1,2 @@
+pub mod Poop
+pub mod Standing

@@ -2,7 +2,7 @@
 ghost use mathlib.Core.Path.{_≡_};
 ghost use Prim.Native.Nat.{_≤_};
 ghost use lib.ListN.{length};
-ghost use Rattle.ship.specs.Refusals.{paper, first, accepted, refused, numberOf, placeOf};
+ghost use Rattle.ship.specs.Refusals.{first, accepted, refused, numberOf, placeOf};
 ghost use Rattle.ship.specs.Vessel.{noShip};
 ghost use Rattle.ship.specs.Checks.{shipLines};
 ghost use Rattle.record.specs.Layout.{headIn, shipOf};

@@ -83,7 +83,7 @@ fn read_ship(s: &[u8], h: Head) -> Answer
     requires { ⌜ (h ≡ headIn (now s)) × (27 ≤ length (now s)) × (first (headLines h (length (now s))) ≡ accepted) ⌝ }
     ensures { λ r. ⌜ shown r ≡ readingIn (now (s .entry)) ⌝ }
 {
-    let all = house_bytes::houses_in(s, h.count as usize);
+    let all = house_reader::houses_in(s, h.count as usize);
     if h.spare + all.spare != 0 {
         return refuse(Refusal::SpareBit);
     }

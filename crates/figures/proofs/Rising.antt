@@ -16,7 +16,7 @@ use Rattle.poop.specs.Question.{Reply, given, noLength, shortestFor}
 use Rattle.poop.proofs.Search.{is-shortest}
 use Rattle.poop.proofs.Theorems.{of-none}
 use Rattle.figures.specs.Figures.{house}
-use Rattle.figures.proofs.Claim.{Tools, Houses, Corrections, Marking, Asking}
+use Rattle.figures.proofs.Claim.{Tools, Reader, Houses, Corrections, Marking, Asking}
 
 abbrev ordinates : List ℕ → List Ordinate
 ordinates o = map (λ (mm : ℕ). record { 0 = lift + mm }) o
@@ -49,11 +49,11 @@ untilRise zero k = noLength
 untilRise (suc m) k = elim (fits k) [ true ↦ given k | false ↦ elim (ltb (mark k) (mark (k + 1))) [ true ↦ noLength | false ↦ untilRise m (k + 1) ] ]
 
 gives-up : untilRise 801 0 ≡ noLength
-unfolding untilRise rising house Tools Houses Corrections Marking Asking
+unfolding untilRise rising house Tools Reader Houses Corrections Marking Asking
 gives-up = refl
 
 fits-later : fits 280 ≡ true
-unfolding rising house Tools Houses Corrections Marking Asking
+unfolding rising house Tools Reader Houses Corrections Marking Asking
 fits-later = refl
 
 pub stops-at-rise : ¬ (untilRise 801 0 ≡ shortestFor rising 150 822)

@@ -2,7 +2,7 @@
 ghost use mathlib.Core.Path.{_≡_};
 ghost use Prim.Native.Nat.{_≤_};
 ghost use lib.ListN.{length};
-ghost use Rattle.ship.specs.Refusals.{paper, first, accepted, refused, numberOf, placeOf};
+ghost use Rattle.ship.specs.Refusals.{first, accepted, refused, numberOf, placeOf};
 ghost use Rattle.ship.specs.Vessel.{noShip};
 ghost use Rattle.ship.specs.Checks.{shipLines};
 ghost use Rattle.record.specs.Layout.{headIn, shipOf};
@@ -82,7 +82,7 @@ fn read_ship(s: &[u8], h: Head) -> Answer
     requires { ⌜ (h ≡ headIn (now s)) × (27 ≤ length (now s)) × (first (headLines h (length (now s))) ≡ accepted) ⌝ }
     ensures { λ r. ⌜ shown r ≡ readingIn (now (s .entry)) ⌝ }
 {
-    let all = house_bytes::houses_in(s, h.count as usize);
+    let all = house_reader::houses_in(s, h.count as usize);
     if h.spare + all.spare != 0 {
         return refuse(Refusal::SpareBit);
     }

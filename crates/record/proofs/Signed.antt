@@ -15,7 +15,7 @@ use Rattle.whole.proofs.Pick.{pick-true, pick-false}
 use Rattle.bits.specs.Fields.{number, unpack}
 use Rattle.bits.proofs.Radix.{fit-unpack, fit-each}
 use Rattle.units.specs.Datum.{mmOf, sheerOf, sheerAt}
-use Rattle.record.specs.Layout.{turn, headWidths, houseWidths, stationIn, ordinateIn, houseIn, headIn}
+use Rattle.record.specs.Layout.{turn, headWidths, houseWidths, houseIn, headIn}
 use Rattle.record.proofs.Complement.{turn-below, turn-above, turn-turn}
 use Rattle.record.proofs.Parts.{head-within}
 

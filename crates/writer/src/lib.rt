@@ -49,7 +49,7 @@ fn put_record(buf: &mut [u8], x: Ship)
     let h = head_of(x);
     head_writer::write(&mut buf[0..HEAD_BYTES], h);
     let houses = x.houses;
-    house_bytes::put_houses(buf, houses, x.n);
+    house_writer::put_houses(buf, houses, x.n);
 }
 
 // Writes a ship's record at the start of `buf`: refusals 3, 4, 7 to 11 and 17, in the table's order.

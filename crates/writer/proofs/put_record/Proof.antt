@@ -8,7 +8,7 @@ use Rattle.bits.specs.Fields.{Fit}
 use Rattle.record.specs.declared.Head.{Head}
 use Rattle.record.specs.Layout.{recordBytes, headWidths, headFields, headBytes, shipHead}
 use Rattle.record.proofs.Parts.{length-headBytes}
-use Rattle.house_bytes.proofs.Written.{behind-head}
+use Rattle.house_writer.proofs.Written.{behind-head}
 use Rattle.writer.proofs.put_record.Statement.{statement}
 use Rattle.writer.proofs.put_record.Tie as tie
 

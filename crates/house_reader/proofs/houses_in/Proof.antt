@@ -9,9 +9,9 @@ use borrow.Author.Needs.{needs}
 use Rattle.ship.specs.Vessel.{noHouse}
 use Rattle.record.specs.Layout.{housesIn, placesIn, houseIn}
 use Rattle.record.specs.Reading.{sparesIn}
-use Rattle.house_bytes.proofs.Places.{zero-bits, places-more, spares-more}
-use Rattle.house_bytes.proofs.houses_in.Statement.{statement}
-use Rattle.house_bytes.proofs.houses_in.Tie as tie
+use Rattle.house_reader.proofs.Places.{zero-bits, places-more, spares-more}
+use Rattle.house_reader.proofs.houses_in.Statement.{statement}
+use Rattle.house_reader.proofs.houses_in.Tie as tie
 
 abbrev Inv-loop : tie.InvT-loop
 Inv-loop s n places₀ spare₀ k₀ places spare k =

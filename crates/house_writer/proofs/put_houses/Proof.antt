@@ -8,9 +8,9 @@ use denote.Ref.{now}
 use native.Mathlib.Omega.{arith}
 use borrow.Author.Needs.{needs}
 use Rattle.record.specs.Layout.{housesBytes}
-use Rattle.house_bytes.proofs.Written.{houses-more}
-use Rattle.house_bytes.proofs.put_houses.Statement.{statement}
-use Rattle.house_bytes.proofs.put_houses.Tie as tie
+use Rattle.house_writer.proofs.Written.{houses-more}
+use Rattle.house_writer.proofs.put_houses.Statement.{statement}
+use Rattle.house_writer.proofs.put_houses.Tie as tie
 
 abbrev Inv-loop : tie.InvT-loop
 Inv-loop buf₀ n houses k₀ buf k =

@@ -6,8 +6,8 @@ use borrow.Author.Needs.{needs}
 use Rattle.bits.specs.Fields.{unpack, piece}
 use Rattle.units.specs.Datum.{datum}
 use Rattle.record.proofs.Complement.{turn-low}
-use Rattle.house_bytes.proofs.house_of.Statement.{statement}
-use Rattle.house_bytes.proofs.house_of.Tie as tie
+use Rattle.house_reader.proofs.house_of.Statement.{statement}
+use Rattle.house_reader.proofs.house_of.Tie as tie
 
 pub house-of-spec : {M : Type 1} → statement M
 unfolding unpack piece

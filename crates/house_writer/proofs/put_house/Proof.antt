@@ -4,8 +4,8 @@ use native.Mathlib.Omega.{arith}
 use borrow.Author.Needs.{needs}
 use Rattle.bits.specs.Fields.{pack, bytes}
 use Rattle.record.specs.Layout.{houseBytes}
-use Rattle.house_bytes.proofs.put_house.Statement.{statement}
-use Rattle.house_bytes.proofs.put_house.Tie as tie
+use Rattle.house_writer.proofs.put_house.Statement.{statement}
+use Rattle.house_writer.proofs.put_house.Tie as tie
 
 pub put-house-spec : {M : Type 1} → statement M
 unfolding houseBytes pack

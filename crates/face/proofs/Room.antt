@@ -19,9 +19,9 @@ use Rattle.mark.specs.declared.Particulars.{Particulars}
 use Rattle.mark.specs.declared.Answer.the-variants.{Given}
 use Rattle.mark.specs.Others.{Sheet, tropical, winter, atlantic, draughtAt, sixMarks, markLines, sheet}
 use Rattle.mark.proofs.OneToOne.{given-marks}
-use Rattle.steps.specs.Steps.{summerOf}
-use Rattle.marks.specs.Marks.{particularsOf, sheetIn}
-use Rattle.marks.proofs.Particulars.{fair-particulars}
+use Rattle.steps.specs.Steps.{summerOf, particularsOf}
+use Rattle.marks.specs.Marks.{sheetIn}
+use Rattle.steps.proofs.Particulars.{fair-particulars}
 use Rattle.marks.proofs.Demand.{sound}
 use Rattle.answers.specs.Answers.{Small}
 

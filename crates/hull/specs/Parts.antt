@@ -1,23 +1,14 @@
--- The summer mark taken apart, so that a search over houses works again only what they change: the hull's part, and the mark of a hull and a deck.
--- Theorems tie it to the steps (`summer-parts`): nobody needs to believe this page.
-use Prim.Native.Nat.{ℕ, _+_, _-_, _^_, _≤_}
-use mathlib.Core.List.{List}
-use Rattle.whole.specs.Pick.{pick}
-use Rattle.whole.specs.Frac.{whole}
+-- A ship without its houses, so that a search over houses works again only what they change.
+-- Theorems tie it to the steps (`summer-parts` of `summer`): nobody needs to believe this page.
+use Prim.Native.Nat.{ℕ, _+_, _^_, _≤_}
 use Rattle.units.specs.Datum.{lift, sheerAt}
-use Rattle.percentages.specs.Table37.{ordinaryRow}
 use Rattle.ship.specs.declared.Ship.{Ship}
-use Rattle.corrections.specs.Short29.{shortB}
-use Rattle.corrections.specs.Fullness30.{counted, fullness}
+use Rattle.corrections.specs.Fullness30.{counted}
 use Rattle.corrections.specs.Depth31.{depthAddition}
-use Rattle.deduction.specs.Deduction37.{deducted}
 use Rattle.sheer.specs.Sheer as Sheer
-use Rattle.bow.specs.Bow.{higher, lower, sheerTaken, forecastleTaken}
-use Rattle.mark.specs.Summer.{summerMark}
-use Rattle.deck.specs.declared.Deck.{Deck}
-use Rattle.deck.specs.Deck.{effectiveOn}
-use Rattle.hull.specs.declared.Hull.{Hull}
+use Rattle.bow.specs.Bow.{higher, lower, sheerTaken}
 use Rattle.steps.specs.Steps.{typeB, basis}
+use Rattle.hull.specs.declared.Hull.{Hull}
 
 -- what the type decides (28, 40), what depth adds (31), the mean of the sheer (38), and the bow height before the forecastle is taken (39)
 unfoldable pub hullOf : Ship → Hull
@@ -36,23 +27,6 @@ hullOf x = record {
     below = record { 0 = lower (x .length .0) (x .moulded .0) (counted (x .block)) (x .waterplane) + sheerTaken (sheerAt (x .sheer) 4) (sheerAt (x .sheer) 5) };
   };
 }
-
--- the mark of a hull and a deck
-unfoldable pub addedOn : Hull → Deck → ℕ
-addedOn h d =
-    fullness (h .block) (h .basis .line .0 + pick (h .b) (shortB (h .length .0) (effectiveOn d)) 0) + h .deep .0
-    + Sheer.addition (h .mean .deficiency .0) (h .length .0) (d .s .0)
-
-unfoldable pub takenOn : List ℕ → Hull → Deck → ℕ
-takenOn row h d =
-    deducted (h .b) row (whole (d .forecastle .effective .0)) (h .length .0) (effectiveOn d)
-    + Sheer.deduction (h .mean .excess .0) (h .length .0) (d .s .0) (d .reach)
-
-unfoldable pub bowOn : Hull → Deck → ℕ
-bowOn h d = h .bow .above .0 - (h .bow .below .0 + forecastleTaken (h .length .0) (d .forecastle .part .0) (d .forecastle .height .0))
-
-unfoldable pub summerOn : Hull → Deck → ℕ
-summerOn h d = summerMark (h .basis .floor) (addedOn h d) (takenOn ordinaryRow h d) (bowOn h d)
 
 -- ---- bounds by which no sum or product of the steps overflows
 pub record FairHull (h : Hull) : Type 0 where

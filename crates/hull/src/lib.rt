@@ -1,18 +1,17 @@
-// A ship without its houses. It is worked once, and a search over houses then works only what they change; summer.rt has the mark of a hull and a deck.
+// A ship without its houses. It is worked once, and a search over houses then works only what they change: `summer` has the mark of a hull and a deck.
 ghost use mathlib.Core.Path.{_≡_};
 ghost use Prim.Native.Nat.{_≤_};
 ghost use Rattle.steps.specs.Basis.{basisOf};
-ghost use Rattle.steps.specs.Steps.{Sound};
+ghost use Rattle.steps.specs.Steps.{Sound, basis, particularsOf};
 ghost use Rattle.hull.specs.Parts.{hullOf, FairHull};
 use bow::Height;
 use corrections::depth;
 use corrections::fullness;
+use mark::Particulars;
 use sheer::Mean;
 use ship::Ship;
 use units::Freeboard;
 use units::Span;
-
-pub mod summer;
 
 // What the type decides: regulation 28's line, and the least freeboard in millimetres.
 pub struct Basis {
@@ -71,5 +70,21 @@ pub fn hull_of(x: Ship) -> Hull
         deep,
         mean,
         bow,
+    }
+}
+
+// What the other marks need of a ship. The floor is the least freeboard that its type decides.
+pub fn particulars_of(x: Ship, floor: u64) -> Particulars
+    requires { ⌜ floor ≡ basis x .floor ⌝ }
+    ensures { λ r. ⌜ r ≡ particularsOf x ⌝ }
+{
+    let depth = x.depth;
+    let length = x.length;
+    Particulars {
+        floor,
+        depth,
+        length,
+        displacement: x.displacement,
+        immersion: x.immersion,
     }
 }

@@ -15,9 +15,9 @@ use Rattle.mark.specs.declared.Answer.{Answer}
 use Rattle.mark.specs.declared.Answer.the-variants.{Given, Refused}
 use Rattle.mark.specs.Others.{Sheet, markLines, sixMarks, sheet, sheetAt}
 use Rattle.mark.proofs.OneToOne.{given-marks}
-use Rattle.steps.specs.Steps.{Sound, summerOf}
+use Rattle.steps.specs.Steps.{Sound, summerOf, particularsOf}
 use Rattle.steps.proofs.Bound.{summer-bounded}
-use Rattle.marks.specs.Marks.{particularsOf, sheetFor, sheetIn, Bounded}
+use Rattle.marks.specs.Marks.{sheetFor, sheetIn, Bounded}
 
 -- an answer that meets the call's equation is within the bound as well
 pub bounded : (x : Ship) → Sound x → (r : Answer) → sheet r ≡ sheetFor x → Bounded r x

@@ -1,4 +1,3 @@
-pub mod Particulars
 pub mod Sheet
 pub mod Covered
 pub mod Demand

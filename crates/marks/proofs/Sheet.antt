@@ -15,8 +15,8 @@ use Rattle.record.proofs.Framed.{read-is-good}
 use Rattle.record.proofs.Calls.{call-read, call-refused}
 use Rattle.mark.specs.declared.Marks.{Marks}
 use Rattle.mark.specs.Others.{Sheet, noMarks, sixMarks, markLines, sheetOf, sheetAt}
-use Rattle.steps.specs.Steps.{Sound, summerOf}
-use Rattle.marks.specs.Marks.{particularsOf, sheetFor, sheetIn}
+use Rattle.steps.specs.Steps.{Sound, summerOf, particularsOf}
+use Rattle.marks.specs.Marks.{sheetFor, sheetIn}
 
 -- the call's answer by its verdict, and its own lines
 abbrev answer : Paper → Ship → Sheet

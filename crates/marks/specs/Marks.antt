@@ -6,17 +6,12 @@ use Rattle.ship.specs.Refusals.{first}
 use Rattle.ship.specs.Checks.{shipLines}
 use Rattle.record.specs.Layout.{shipIn}
 use Rattle.record.specs.Reading.{frameLines}
-use Rattle.mark.specs.declared.Particulars.{Particulars}
 use Rattle.mark.specs.declared.Answer.{Answer}
 use Rattle.mark.specs.declared.Answer.the-variants.{Given, Refused}
 use Rattle.mark.specs.Summer.{Holds}
 use Rattle.mark.specs.Others.{Sheet, sheetOf, sheetAt, markLines, sixMarks}
-use Rattle.steps.specs.Steps.{basis, summerOf}
+use Rattle.steps.specs.Steps.{summerOf, particularsOf}
 use Rattle.steps.specs.Exact.{exactSummerOf}
-
--- what the other marks need of the ship besides S
-unfoldable pub particularsOf : Ship → Particulars
-particularsOf x = record { floor = basis x .floor; depth = x .depth; length = x .length; displacement = x .displacement; immersion = x .immersion }
 
 -- the marks of a ship that the reader accepts, or 12 or 13
 unfoldable pub sheetFor : Ship → Sheet

@@ -2,29 +2,11 @@
 ghost use mathlib.Core.Path.{_≡_};
 ghost use Rattle.record.specs.Layout.{shipIn};
 ghost use Rattle.mark.specs.Others.{sheet};
-ghost use Rattle.steps.specs.Steps.{Sound, basis};
-ghost use Rattle.marks.specs.Marks.{particularsOf, sheetFor, sheetIn, Bounded};
-use hull::summer;
+ghost use Rattle.steps.specs.Steps.{Sound};
+ghost use Rattle.marks.specs.Marks.{sheetFor, sheetIn, Bounded};
 use mark::Answer;
-use mark::Particulars;
 use ship::Ship;
 use ship::refusal::Verdict;
-
-// What the other marks need of a ship. The floor is the least freeboard that its type decides.
-pub fn particulars_of(x: Ship, floor: u64) -> Particulars
-    requires { ⌜ floor ≡ basis x .floor ⌝ }
-    ensures { λ r. ⌜ r ≡ particularsOf x ⌝ }
-{
-    let depth = x.depth;
-    let length = x.length;
-    Particulars {
-        floor,
-        depth,
-        length,
-        displacement: x.displacement,
-        immersion: x.immersion,
-    }
-}
 
 // The marks of a ship that the reader accepts, or refusal 12 or 13.
 pub fn of_ship(x: Ship) -> Answer
@@ -36,7 +18,7 @@ pub fn of_ship(x: Ship) -> Answer
     let h = hull::hull_of(x);
     let d = deck::deck_of(x.length, hs, x.n);
     let s = summer::summer_on(h, d);
-    mark::follow(particulars_of(x, h.basis.floor), s)
+    mark::follow(hull::particulars_of(x, h.basis.floor), s)
 }
 
 // The marks of any bytes.

@@ -16,9 +16,8 @@ use Rattle.ship.proofs.Lines.{AllPass, all-pass-split, first-skip}
 use Rattle.record.specs.Layout.{shipIn}
 use Rattle.record.specs.Reading.{frameLines, readingIn}
 use Rattle.record.proofs.Framed.{passes-all, ship-is}
-use Rattle.steps.specs.Steps.{summerOf}
+use Rattle.steps.specs.Steps.{summerOf, particularsOf}
 use Rattle.mark.specs.Others.{markLines}
-use Rattle.marks.specs.Marks.{particularsOf}
 use Rattle.trial.specs.Poop.{poopHouse, withFirst, withPoop, within, marksWithin, fitsAt}
 use Rattle.poop.specs.Question.{Reply, refusing, noLength, Shortest, fitting, none, askLines, replyOf, shortestFor, replyIn}
 use Rattle.poop.proofs.Search.{is-shortest, one-shortest}

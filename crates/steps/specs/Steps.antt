@@ -18,6 +18,7 @@ use Rattle.corrections.specs.Gathered as Before
 use Rattle.deduction.specs.Deduction37.{deducted}
 use Rattle.sheer.specs.Sheer as Sheer
 use Rattle.bow.specs.Bow.{bowFreeboard}
+use Rattle.mark.specs.declared.Particulars.{Particulars}
 use Rattle.mark.specs.Summer.{summerMark}
 use Rattle.steps.specs.Basis.{Basis, basisOf}
 
@@ -68,3 +69,7 @@ bowOf x =
 -- mark (40): up to whole mm, and at least the floor
 unfoldable pub summerOf : Ship → ℕ
 summerOf x = summerMark (basis x .floor) (addedTo x) (takenFrom ordinaryRow x) (bowOf x)
+
+-- what the other marks need of the ship besides S
+unfoldable pub particularsOf : Ship → Particulars
+particularsOf x = record { floor = basis x .floor; depth = x .depth; length = x .length; displacement = x .displacement; immersion = x .immersion }

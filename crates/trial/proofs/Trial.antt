@@ -25,11 +25,11 @@ use Rattle.ship.proofs.Passing.{lines-pass, good-with}
 use Rattle.deck.specs.Deck.{deckOf, deckWith, FairDeck}
 use Rattle.deck.proofs.Gathered.{deck-with, fair-deck}
 use Rattle.mark.specs.Others.{markLines}
-use Rattle.steps.specs.Steps.{Sound, summerOf}
-use Rattle.hull.specs.Parts.{hullOf, summerOn, FairHull}
-use Rattle.marks.specs.Marks.{particularsOf}
-use Rattle.hull.proofs.Parts.{summer-parts}
-use Rattle.marks.proofs.Particulars.{fair-particulars}
+use Rattle.steps.specs.Steps.{Sound, summerOf, particularsOf}
+use Rattle.hull.specs.Parts.{hullOf, FairHull}
+use Rattle.summer.specs.Parts.{summerOn}
+use Rattle.summer.proofs.Parts.{summer-parts}
+use Rattle.steps.proofs.Particulars.{fair-particulars}
 use Rattle.trial.specs.declared.Standing.{Standing}
 use Rattle.trial.specs.Poop.{poopHouse, withFirst, withPoop, within, marksWithin, fitsAt}
 use Rattle.trial.specs.Standing.{roomOf, standingOf, deckFor, markedOn, fitsOn, Fair}

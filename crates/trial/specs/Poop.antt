@@ -11,9 +11,8 @@ use Rattle.ship.specs.declared.Ship.{Ship}
 use Rattle.ship.specs.Vessel.{housesOf}
 use Rattle.ship.specs.Refusals.{Line, first}
 use Rattle.ship.specs.Checks.{houseLines}
-use Rattle.steps.specs.Steps.{summerOf}
+use Rattle.steps.specs.Steps.{summerOf, particularsOf}
 use Rattle.mark.specs.Others.{markLines}
-use Rattle.marks.specs.Marks.{particularsOf}
 
 -- an enclosed house, no raised quarterdeck, of the asked height, from 0 to 100k mm
 unfoldable pub poopHouse : ℕ → ℕ → House

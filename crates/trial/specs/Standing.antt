@@ -9,8 +9,9 @@ use Rattle.ship.specs.Vessel.{housesOf, houseAt}
 use Rattle.deck.specs.declared.Deck.{Deck}
 use Rattle.deck.specs.Deck.{deckOf, deckWith, FairDeck}
 use Rattle.mark.specs.Others.{markLines}
-use Rattle.hull.specs.Parts.{hullOf, summerOn, FairHull}
-use Rattle.marks.specs.Marks.{particularsOf}
+use Rattle.steps.specs.Steps.{particularsOf}
+use Rattle.hull.specs.Parts.{hullOf, FairHull}
+use Rattle.summer.specs.Parts.{summerOn}
 use Rattle.trial.specs.declared.Standing.{Standing}
 use Rattle.trial.specs.Poop.{poopHouse, within}
 

@@ -6,7 +6,6 @@ ghost use Rattle.trial.specs.Poop.{poopHouse};
 ghost use Rattle.trial.specs.Standing.{roomOf, standingOf, deckFor, markedOn, fitsOn, Fair};
 use deck::Deck;
 use hull::Hull;
-use hull::summer;
 use mark::Answer;
 use mark::Particulars;
 use ship::House;
@@ -46,7 +45,7 @@ pub fn standing_of(x: Ship, height: Span, wish: u64) -> Standing
     let hull = hull::hull_of(x);
     let deck = deck::deck_of(x.length, hs, x.n);
     let room = room_of(x);
-    let particulars = marks::particulars_of(x, hull.basis.floor);
+    let particulars = hull::particulars_of(x, hull.basis.floor);
     Standing {
         hull,
         deck,

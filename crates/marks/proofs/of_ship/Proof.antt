@@ -3,11 +3,12 @@ use mathlib.Core.Path.{_≡_, ap, ap₂, _∙_}
 use borrow.Author.Needs.{needs}
 use Rattle.mark.specs.Others.{sheetAt}
 use Rattle.hull.specs.declared.Hull.{Hull}
-use Rattle.steps.specs.Steps.{summerOf}
-use Rattle.hull.specs.Parts.{hullOf, summerOn}
-use Rattle.hull.proofs.Parts.{summer-parts}
-use Rattle.marks.specs.Marks.{particularsOf, sheetFor}
-use Rattle.marks.proofs.Particulars.{fair-particulars}
+use Rattle.steps.specs.Steps.{summerOf, particularsOf}
+use Rattle.hull.specs.Parts.{hullOf}
+use Rattle.summer.specs.Parts.{summerOn}
+use Rattle.summer.proofs.Parts.{summer-parts}
+use Rattle.marks.specs.Marks.{sheetFor}
+use Rattle.steps.proofs.Particulars.{fair-particulars}
 use Rattle.marks.proofs.Demand.{bounded}
 use Rattle.marks.proofs.of_ship.Statement.{statement}
 use Rattle.marks.proofs.of_ship.Tie as tie

@@ -3,7 +3,7 @@ use mathlib.Core.Path.{refl, ap, _∙_}
 use native.Mathlib.Omega.{arith}
 use borrow.Author.Needs.{needs}
 use borrow.Author.Tests.{le-leb, lt-leb}
-use Rattle.hull.specs.Parts.{summerOn}
+use Rattle.summer.specs.Parts.{summerOn}
 use Rattle.trial.specs.Standing.{markedOn, fitsOn}
 use Rattle.trial.proofs.fits.Statement.{statement}
 use Rattle.trial.proofs.fits.Tie as tie

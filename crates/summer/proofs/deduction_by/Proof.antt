@@ -4,8 +4,8 @@ use Rattle.deduction.specs.Deduction37.{deduction}
 use Rattle.deduction.proofs.Deduction37.{neighbours, share-read}
 use native.Mathlib.Omega.{arith}
 use borrow.Author.Needs.{needs}
-use Rattle.hull.proofs.summer.deduction_by.Statement.{statement}
-use Rattle.hull.proofs.summer.deduction_by.Tie as tie
+use Rattle.summer.proofs.deduction_by.Statement.{statement}
+use Rattle.summer.proofs.deduction_by.Tie as tie
 
 pub deduction-by-spec : {M : Type 1} → statement M
 deduction-by-spec =

@@ -2,9 +2,9 @@
 use mathlib.Core.Path.{_∙_}
 use borrow.Author.Needs.{needs}
 use Rattle.mark.specs.Summer.{summerMark}
-use Rattle.hull.specs.Parts.{bowOn, summerOn}
-use Rattle.hull.proofs.summer.summer_on.Statement.{statement}
-use Rattle.hull.proofs.summer.summer_on.Tie as tie
+use Rattle.summer.specs.Parts.{bowOn, summerOn}
+use Rattle.summer.proofs.summer_on.Statement.{statement}
+use Rattle.summer.proofs.summer_on.Tie as tie
 
 pub summer-on-spec : {M : Type 1} → statement M
 unfolding bowOn summerOn

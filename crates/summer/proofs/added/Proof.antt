@@ -1,9 +1,9 @@
 use mathlib.Core.Path.{refl}
 use native.Mathlib.Omega.{arith}
 use borrow.Author.Needs.{needs}
-use Rattle.hull.specs.Parts.{addedOn}
-use Rattle.hull.proofs.summer.added.Statement.{statement}
-use Rattle.hull.proofs.summer.added.Tie as tie
+use Rattle.summer.specs.Parts.{addedOn}
+use Rattle.summer.proofs.added.Statement.{statement}
+use Rattle.summer.proofs.added.Tie as tie
 
 pub added-spec : {M : Type 1} → statement M
 unfolding addedOn

@@ -21,7 +21,8 @@ use Rattle.bow.specs.Bow.{higher, lower, sheerTaken, forecastleTaken, bowFreebo
 use Rattle.mark.specs.Summer.{summerMark}
 use Rattle.deck.specs.Deck.{deckOf}
 use Rattle.steps.specs.Steps.{typeB, basis, coveredS, effectiveE, forecastleHouse, coverReach, addedTo, takenFrom, bowOf, summerOf}
-use Rattle.hull.specs.Parts.{hullOf, addedOn, takenOn, bowOn, summerOn}
+use Rattle.hull.specs.Parts.{hullOf}
+use Rattle.summer.specs.Parts.{addedOn, takenOn, bowOn, summerOn}
 
 -- 37's test on the length that is rounded down is the one on the fraction
 taken-parts : (row : List ℕ) (x : Ship) → takenOn row (hullOf x) (deckOf (x .length .0) (housesOf x)) ≡ takenFrom row x

@@ -1,6 +1,6 @@
-use Rattle.marks.specs.Marks.{particularsOf}
-use Rattle.marks.proofs.particulars_of.Statement.{statement}
-use Rattle.marks.proofs.particulars_of.Tie as tie
+use Rattle.steps.specs.Steps.{particularsOf}
+use Rattle.hull.proofs.particulars_of.Statement.{statement}
+use Rattle.hull.proofs.particulars_of.Tie as tie
 
 pub particulars-of-spec : {M : Type 1} → statement M
 unfolding particularsOf

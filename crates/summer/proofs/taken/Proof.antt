@@ -1,9 +1,9 @@
 use mathlib.Core.Path.{refl}
 use borrow.Author.Needs.{needs}
 use Rattle.deduction.specs.Deduction37.{deducted}
-use Rattle.hull.specs.Parts.{takenOn}
-use Rattle.hull.proofs.summer.taken.Statement.{statement}
-use Rattle.hull.proofs.summer.taken.Tie as tie
+use Rattle.summer.specs.Parts.{takenOn}
+use Rattle.summer.proofs.taken.Statement.{statement}
+use Rattle.summer.proofs.taken.Tie as tie
 
 pub taken-spec : {M : Type 1} → statement M
 unfolding takenOn deducted

@@ -3,9 +3,8 @@ use Prim.Native.Nat.{_≤_, _<_}
 use native.Mathlib.Omega.{arith}
 use Rattle.whole.proofs.Pick.{by-cases}
 use Rattle.ship.specs.declared.Ship.{Ship}
 use Rattle.steps.specs.Basis.{Basis, basisOf}
-use Rattle.steps.specs.Steps.{Sound, typeB}
-use Rattle.marks.specs.Marks.{particularsOf}
+use Rattle.steps.specs.Steps.{Sound, typeB, particularsOf}
 
 pub fair-particulars : (x : Ship) → Sound x → (particularsOf x .floor ≤ 60000) × (particularsOf x .depth .0 ≤ 60000) × (particularsOf x .displacement < 1048576)
 unfolding particularsOf basisOf

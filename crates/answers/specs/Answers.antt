@@ -12,7 +12,7 @@ use Rattle.mark.specs.declared.Marks.{Marks}
 use Rattle.mark.specs.Summer.{Holds}
 use Rattle.mark.specs.Others.{Sheet}
 use Rattle.steps.specs.Exact.{exactSummerOf}
-use Rattle.poop.specs.Question.{Reply}
+use Rattle.question.specs.Question.{Reply}
 use Rattle.answers.specs.declared.MarksAnswer.{MarksAnswer}
 use Rattle.answers.specs.declared.PoopAnswer.{PoopAnswer}
 use Rattle.answers.specs.declared.ReadAnswer.{ReadAnswer}

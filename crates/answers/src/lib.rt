@@ -7,7 +7,7 @@ ghost use Rattle.ship.specs.Refusals.{paper};
 ghost use Rattle.record.specs.Layout.{recordLength};
 ghost use Rattle.mark.specs.Others.{sheet};
 ghost use Rattle.mark.specs.declared.Answer.the-variants.{Given, Refused};
-ghost use Rattle.poop.specs.Question.{reply};
+ghost use Rattle.question.specs.Question.{reply};
 ghost use Rattle.answers.specs.Answers.{fromSheet, fromReply, Small};
 use flat::FlatShip;
 use mark::Marks;
@@ -90,16 +90,16 @@ pub fn unmarked(r: Refusal) -> MarksAnswer
 }
 
 // The shortest poop, or what is refused.
-pub fn poop_of(a: poop::Answer) -> PoopAnswer
+pub fn poop_of(a: question::Answer) -> PoopAnswer
     ensures { λ r. ⌜ r ≡ fromReply (reply a) ⌝ }
 {
     match a {
-        poop::Answer::Poop(k) => PoopAnswer {
+        question::Answer::Poop(k) => PoopAnswer {
             refusal: 0,
             place: 0,
             decimetres: k,
         },
-        poop::Answer::Refused(r) => PoopAnswer {
+        question::Answer::Refused(r) => PoopAnswer {
             refusal: refusal::number(r),
             place: refusal::place(r),
             decimetres: 0,

@@ -22,7 +22,7 @@ use Rattle.record.specs.Writing.{writeLines, writingOf, written}
 use Rattle.record.proofs.RoundTrip as RoundTrip
 use Rattle.record.proofs.Theorems.{read-what-was-written, write-what-was-read}
 use Rattle.marks.specs.Marks.{sheetIn}
-use Rattle.poop.specs.Question.{replyIn}
+use Rattle.question.specs.Question.{replyIn}
 use Rattle.flat.specs.declared.FlatShip.{FlatShip}
 use Rattle.flat.specs.Flat.{shipOf, ordinateFrom, houseFrom, shipFrom, flatClean, flatZero}
 use Rattle.flat.proofs.Kept.{ship-back}

@@ -5,7 +5,7 @@ ghost use Rattle.record.specs.Layout.{shipIn};
 ghost use Rattle.record.specs.Reading.{readingIn};
 ghost use Rattle.record.specs.Writing.{writingOf, written};
 ghost use Rattle.marks.specs.Marks.{sheetIn};
-ghost use Rattle.poop.specs.Question.{replyIn};
+ghost use Rattle.question.specs.Question.{replyIn};
 ghost use Rattle.flat.specs.Flat.{shipFrom};
 ghost use Rattle.answers.specs.Answers.{fromSheet, fromReply, fromReading, fromVerdict, Bounded};
 use answers::MarksAnswer;

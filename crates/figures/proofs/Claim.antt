@@ -29,7 +29,7 @@ use Rattle.steps.specs.Basis as Basis
 use Rattle.steps.specs.Steps as Steps
 use Rattle.marks.specs.Marks as Marks
 use Rattle.trial.specs.Poop as Poop
-use Rattle.poop.specs.Question as Question
+use Rattle.question.specs.Question as Question
 use Rattle.figures.specs.Figures.{k1, k2, bowHeight, marksRow, askedRow, house, figures, agree, allAgree}
 
 -- what a figure computes through

@@ -12,8 +12,8 @@ use Rattle.ship.specs.declared.Ship.{Ship}
 use Rattle.ship.specs.Vessel.{noHouse}
 use Rattle.steps.specs.Steps.{summerOf}
 use Rattle.trial.specs.Poop.{withPoop, fitsAt}
-use Rattle.poop.specs.Question.{Reply, given, noLength, shortestFor}
-use Rattle.poop.proofs.Search.{is-shortest}
+use Rattle.question.specs.Question.{Reply, given, noLength, shortestFor}
+use Rattle.question.proofs.Search.{is-shortest}
 use Rattle.poop.proofs.Theorems.{of-none}
 use Rattle.figures.specs.Figures.{house}
 use Rattle.figures.proofs.Claim.{Tools, Reader, Houses, Corrections, Marking, Asking}

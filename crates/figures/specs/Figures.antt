@@ -27,7 +27,7 @@ use Rattle.mark.specs.Others.{Sheet}
 use Rattle.steps.specs.Steps.{typeB, effectiveE, forecastleHouse, addedTo, takenFrom, summerOf}
 use Rattle.marks.specs.Marks.{sheetIn}
 use Rattle.trial.specs.Poop.{withPoop}
-use Rattle.poop.specs.Question.{Reply, replyIn}
+use Rattle.question.specs.Question.{Reply, replyIn}
 
 pub record Row : Type 0 where
   pub figure : ℕ

@@ -1,6 +1,6 @@
 // Asks the shortest poop of each file that an argument names: eight bytes of height, eight of wish, then a record.
 // What must come is in `stdout`, made by `samples questions` of twin/, which shares no code with the crates.
-use poop::Answer;
+use question::Answer;
 
 fn ask(s: &[u8]) -> Answer {
     if s.len() < 16 {

@@ -12,9 +12,9 @@ use Rattle.ship.proofs.Lines.{beside-refusal}
 use Rattle.record.specs.Layout.{shipIn}
 use Rattle.record.specs.Reading.{readingIn}
 use Rattle.record.proofs.Calls.{call-read, call-refused}
-use Rattle.poop.specs.declared.Answer.{Answer}
-use Rattle.poop.specs.declared.Answer.the-variants.{Poop, Refused}
-use Rattle.poop.specs.Question.{Reply, refusing, reply, askLines, replyOf, shortestFor, replyFor, replyIn}
+use Rattle.question.specs.declared.Answer.{Answer}
+use Rattle.question.specs.declared.Answer.the-variants.{Poop, Refused}
+use Rattle.question.specs.Question.{Reply, refusing, reply, askLines, replyOf, shortestFor, replyFor, replyIn}
 
 module _ (height wish : ℕ) where
   -- the call's answer by its verdict, and its own lines

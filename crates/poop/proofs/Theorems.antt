@@ -19,8 +19,8 @@ use Rattle.record.proofs.Framed.{passes-all, ship-is}
 use Rattle.steps.specs.Steps.{summerOf, particularsOf}
 use Rattle.mark.specs.Others.{markLines}
 use Rattle.trial.specs.Poop.{poopHouse, withFirst, withPoop, within, marksWithin, fitsAt}
-use Rattle.poop.specs.Question.{Reply, refusing, noLength, Shortest, fitting, none, askLines, replyOf, shortestFor, replyIn}
-use Rattle.poop.proofs.Search.{is-shortest, one-shortest}
+use Rattle.question.specs.Question.{Reply, refusing, noLength, Shortest, fitting, none, askLines, replyOf, shortestFor, replyIn}
+use Rattle.question.proofs.Search.{is-shortest, one-shortest}
 
 -- no line refuses by a number of 16 or more
 abbrev Early : List Line → Type 0

@@ -1,18 +1,12 @@
 // The shortest-poop question: on a ship, or on any bytes as a ship record, with refusals 1 to 11, then 14 to 16.
 ghost use mathlib.Core.Path.{_≡_};
-ghost use Prim.Native.Nat.{_≤_, _<_};
 ghost use Rattle.steps.specs.Steps.{Sound};
-ghost use Rattle.poop.specs.Question.{reply, noRoom, shortestFor, replyFor, replyIn};
+ghost use Rattle.question.specs.Question.{reply, noRoom, replyFor, replyIn};
+use question::Answer;
 use ship::Ship;
 use ship::refusal::Refusal;
 use ship::refusal::Verdict;
 use units::Span;
-
-// The shortest poop in decimetres, or what is refused.
-pub enum Answer {
-    Poop(u64),
-    Refused(Refusal),
-}
 
 // Refusal 15: the first house stands where a poop would, or all eight places are taken.
 fn no_room(x: Ship) -> bool
@@ -22,23 +16,6 @@ fn no_room(x: Ship) -> bool
     let h = hs[0];
     let ap = units::forward_of_ap(Span(0));
     ((0 < x.n) & units::is_at_or_abaft(h.aft, ap)) | (x.n == 8)
-}
-
-// The first length that fits. A longer poop can raise the mark, so each is tried.
-fn shortest(x: Ship, height: Span, wish: u64) -> Answer
-    requires { ⌜ Sound x × (x .n < 8) × (1 ≤ height .0) × (height .0 ≤ 8191) ⌝ }
-    ensures { λ r. ⌜ reply r ≡ shortestFor x (height .0) wish ⌝ }
-{
-    let q = trial::standing_of(x, height, wish);
-    let most = units::dm_within(x.length);
-    let mut k: u64 = 0;
-    while k <= most {
-        if trial::fits(q, k) {
-            return Answer::Poop(k);
-        }
-        k += 1;
-    }
-    Answer::Refused(Refusal::NoLengthFits)
 }
 
 // The question on a ship that the reader accepts: refusals 14 to 16.
@@ -52,7 +29,7 @@ pub fn of_ship(x: Ship, height: u64, wish: u64) -> Answer
     if no_room(x) {
         return Answer::Refused(Refusal::NoRoomForPoop);
     }
-    shortest(x, Span(height), wish)
+    question::shortest(x, Span(height), wish)
 }
 
 // The question on any bytes.

@@ -1,7 +1,7 @@
 // The shortest poop of the record on standard input: shortest HEIGHT WISH, both in millimetres.
 use decimal::Parsed;
 use libc::STDIN_FILENO;
-use poop::Answer;
+use question::Answer;
 
 fn argument(i: usize) -> Parsed {
     let mut buf = io::buffer();

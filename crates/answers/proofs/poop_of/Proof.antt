@@ -1,6 +1,6 @@
 use mathlib.Core.Path.{sym, ap, _∙_}
 use borrow.Author.Needs.{needs}
-use Rattle.poop.specs.Question.{reply}
+use Rattle.question.specs.Question.{reply}
 use Rattle.answers.specs.Answers.{fromReply}
 use Rattle.answers.proofs.poop_of.Statement.{statement}
 use Rattle.answers.proofs.poop_of.Tie as tie

@@ -10,7 +10,7 @@ use Rattle.whole.specs.Pick.{pick}
 use Rattle.ship.specs.Vessel.{houseAt}
 use Rattle.ship.specs.Refusals.{accepted, refused, first}
 use Rattle.ship.proofs.Lines.{or-false}
-use Rattle.poop.specs.Question.{noRoom, replyOf, shortestFor, replyFor}
+use Rattle.question.specs.Question.{noRoom, replyOf, shortestFor, replyFor}
 use Rattle.poop.proofs.of_ship.Statement.{statement}
 use Rattle.poop.proofs.of_ship.Tie as tie
 

@@ -12,8 +12,8 @@ use Rattle.ship.specs.Refusals.{Paper, Line, accepted, refused, numberOf, place
 use Rattle.ship.specs.Checks.{shipLines}
 use Rattle.record.specs.Layout.{shipIn}
 use Rattle.record.specs.Reading.{frameLines}
-use Rattle.poop.specs.declared.Answer.{Answer}
-use Rattle.poop.specs.declared.Answer.the-variants.{Poop, Refused}
+use Rattle.question.specs.declared.Answer.{Answer}
+use Rattle.question.specs.declared.Answer.the-variants.{Poop, Refused}
 use Rattle.trial.specs.Poop.{fitsAt}
 
 -- an answer in 01's own terms: number 0 refuses nothing; beside a refusal the length is zero

@@ -6,11 +6,11 @@ use native.Mathlib.Nat.{sub-zero}
 use native.Mathlib.Omega.{arith}
 use borrow.Author.Needs.{needs}
 use Rattle.trial.specs.Standing.{fitsOn}
-use Rattle.poop.specs.Question.{shortestFrom, shortestFor}
+use Rattle.question.specs.Question.{shortestFrom, shortestFor}
 use Rattle.trial.proofs.Trial.{length-stands}
-use Rattle.poop.proofs.Search.{hit, miss, end, searched}
-use Rattle.poop.proofs.shortest.Statement.{statement}
-use Rattle.poop.proofs.shortest.Tie as tie
+use Rattle.question.proofs.Search.{hit, miss, end, searched}
+use Rattle.question.proofs.shortest.Statement.{statement}
+use Rattle.question.proofs.shortest.Tie as tie
 
 abbrev Inv-loop : tie.InvT-loop
 Inv-loop wish q most k₀ k = (k ≤ most + 1) × (shortestFrom (fitsOn q) (most + 1 - k) k ≡ shortestFrom (fitsOn q) (most + 1) 0)

@@ -11,7 +11,7 @@ use Rattle.trial.specs.declared.Standing.{Standing}
 use Rattle.trial.specs.Poop.{fitsAt}
 use Rattle.trial.specs.Standing.{standingOf, fitsOn}
 use Rattle.trial.proofs.Trial.{fits-same}
-use Rattle.poop.specs.Question.{Reply, given, noLength, shortestFrom, shortestFor, Shortest, fitting, none}
+use Rattle.question.specs.Question.{Reply, given, noLength, shortestFrom, shortestFor, Shortest, fitting, none}
 
 module _ (fits : ℕ → Bool) where
   -- one turn: the length at hand fits, it does not, and there is none left

@@ -85,14 +85,22 @@ read-whole s e =
     let v = first-passed (frameLines s ++ shipLines (shipIn s)) (all-pass (frameLines s ++ shipLines (shipIn s)) (omega arith) e) in
     λ i. record { verdict = v i; ship = readingIn s .ship }
 
+-- the write is accepted, its answer is the record's length, and the buffer holds the record
 pub written-back : (s : List ℕ) → Bytes s → (a : ReadAnswer) → a ≡ fromReading (readingIn s) → a .refusal ≡ 0
     → (buf : List ℕ) → length s ≤ length buf
-    → written (writingOf (length buf) (shipFrom (a .ship))) (shipFrom (a .ship)) buf ≡ s ++ drop (length s) buf
-unfolding fromReading
+    → let x = shipFrom (a .ship) in let p = writingOf (length buf) x in
+    (fromVerdict p x ≡ record { refusal = 0; place = 0; bytes = length s }) × (written p x buf ≡ s ++ drop (length s) buf)
+unfolding fromReading fromVerdict pick
 written-back s b a e z buf h =
     let n : readingIn s .verdict .number ≡ 0 = sym (ap (λ (r : ReadAnswer). r .refusal) e) ∙ z in
-    let x : shipFrom (a .ship) ≡ readingIn s .ship = ap (λ (r : ReadAnswer). shipFrom (r .ship)) e ∙ ship-back (readingIn s .ship) in
-    ap (λ (y : Ship). written (writingOf (length buf) y) y buf) x ∙ write-what-was-read s (readingIn s .ship) b (read-whole s n) buf h
+    let x = readingIn s .ship in
+    let same : shipFrom (a .ship) ≡ x = ap (λ (r : ReadAnswer). shipFrom (r .ship)) e ∙ ship-back x in
+    let r = read-whole s n in
+    let w = write-what-was-read s x b r buf h in
+    let l = sym (RoundTrip.length-there s x r) in (
+      ap (λ (y : Ship). fromVerdict (writingOf (length buf) y) y) same ∙ ap (λ (p : Paper). fromVerdict p x) (w .0) ∙ (λ i. record { refusal = 0; place = 0; bytes = l i }),
+      ap (λ (y : Ship). written (writingOf (length buf) y) y buf) same ∙ w .1,
+    )
 
 -- ---- one answer
 pub one-marks : (s : List ℕ) (a b : MarksAnswer) → a ≡ fromSheet (sheetIn s) → b ≡ fromSheet (sheetIn s) → a ≡ b

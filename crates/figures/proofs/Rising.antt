@@ -10,9 +10,11 @@ use Rattle.units.specs.declared.Ordinate.{Ordinate}
 use Rattle.units.specs.Datum.{lift}
 use Rattle.ship.specs.declared.Ship.{Ship}
 use Rattle.ship.specs.Vessel.{noHouse}
+use Rattle.ship.specs.Refusals.{accepted, first}
+use Rattle.ship.specs.Checks.{shipLines}
 use Rattle.steps.specs.Steps.{summerOf}
 use Rattle.trial.specs.Poop.{withPoop, fitsAt}
-use Rattle.question.specs.Question.{Reply, given, noLength, shortestFor}
+use Rattle.question.specs.Question.{Reply, given, noLength, shortestFor, replyFor}
 use Rattle.question.proofs.Search.{is-shortest}
 use Rattle.poop.proofs.Theorems.{of-none}
 use Rattle.figures.specs.Figures.{house}
@@ -37,6 +39,11 @@ rising = record {
   houses = house 28000 51200 2000 ∷ replicate 7 noHouse;
 }
 
+-- the checks accept it
+pub rising-accepted : first (shipLines rising) ≡ accepted
+unfolding rising house Tools Reader
+rising-accepted = refl
+
 abbrev pub mark : ℕ → ℕ
 mark k = summerOf (withPoop 150 k rising)
 
@@ -56,9 +63,14 @@ fits-later : fits 280 ≡ true
 unfolding rising house Tools Reader Houses Corrections Marking Asking
 fits-later = refl
 
-pub stops-at-rise : ¬ (untilRise 801 0 ≡ shortestFor rising 150 822)
+-- height, wish and room for a poop pass, so the search answers
+asked : replyFor rising 150 822 ≡ shortestFor rising 150 822
+unfolding rising house Tools replyFor
+asked = refl
+
+pub stops-at-rise : ¬ (untilRise 801 0 ≡ replyFor rising 150 822)
 unfolding rising
 stops-at-rise e =
-    let z : shortestFor rising 150 822 ≡ noLength = sym e ∙ gives-up in
+    let z : shortestFor rising 150 822 ≡ noLength = sym asked ∙ sym e ∙ gives-up in
     let f = of-none fits 80000 (shortestFor rising 150 822) (is-shortest rising 150 822) (ap (λ (r : Reply). r .verdict .number) z) 280 (omega arith) in
     true≢false (sym fits-later ∙ f)

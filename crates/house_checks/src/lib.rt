@@ -12,7 +12,7 @@ use units::Station;
 // How far a house may stand out beyond either perpendicular, and the greatest height of thirteen bits, in millimetres.
 const BEYOND: u64 = 20000;
 
-const HIGHEST: u64 = 8191;
+const TALLEST: u64 = 8191;
 
 // Check 9: the house has a length, some of it lies forward of the after perpendicular and some abaft the fore one, it stands out no farther than it
 // may, and its height is in its range. A length that would be negative reads as 0.
@@ -36,7 +36,7 @@ fn bad_ends(l: Span, h: House) -> bool
         | (BEYOND < out_aft)
         | (BEYOND < out_forward)
         | (height < 1)
-        | (HIGHEST < height)
+        | (TALLEST < height)
 }
 
 // Check 10: a raised quarterdeck is enclosed, begins at the after perpendicular or abaft it, and ends abaft the fore one.

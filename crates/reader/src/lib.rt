@@ -67,6 +67,7 @@ fn judge(x: Ship) -> Answer
             verdict: Verdict::Accepted,
             ship: x,
         },
+        // As refuse(r), but written out: the refused ship is at hand here, so what stands beside the refusal is chosen in plain sight.
         Verdict::Refused(r) => {
             let none = ship::no_ship();
             Answer {

@@ -53,10 +53,12 @@ module _ (x : Ship) (shaped : Shaped x) (buf : List ℕ) (wrote : writingOf (len
         houses = sym (take-at (housesOf x) (replicate (8 - x .n) noHouse) (x .n) e);
       }
 
--- ---- writing an accepted record's ship gives its bytes back, spare bits included
+-- ---- writing an accepted record's ship is accepted and gives its bytes back, spare bits included
 pub write-what-was-read : (s : List ℕ) (x : Ship) → Bytes s → readingIn s ≡ record { verdict = accepted; ship = x }
-    → (buf : List ℕ) → length s ≤ length buf → written (writingOf (length buf) x) x buf ≡ s ++ drop (length s) buf
+    → (buf : List ℕ) → length s ≤ length buf
+    → (writingOf (length buf) x ≡ accepted) × (written (writingOf (length buf) x) x buf ≡ s ++ drop (length s) buf)
 unfolding written pick
 write-what-was-read s x b e buf h =
     let l = sym (length-there s x e) in
-    rw (writes-back s x e (length buf) h) (λ i. write-back s x e b i ++ drop (l i) buf)
+    let w = writes-back s x e (length buf) h in
+    (w, rw w (λ i. write-back s x e b i ++ drop (l i) buf))

@@ -9,7 +9,7 @@ use Rattle.whole.specs.Pick.{pick}
 use Rattle.bits.specs.Fields.{Bytes}
 use Rattle.ship.specs.declared.Ship.{Ship}
 use Rattle.ship.specs.Vessel.{noHouse, housesOf, clean, Same}
-use Rattle.ship.specs.Refusals.{accepted, first}
+use Rattle.ship.specs.Refusals.{Paper, accepted, first}
 use Rattle.ship.specs.Checks.{shipLines}
 use Rattle.record.specs.Layout.{recordLength, recordBytes}
 use Rattle.record.specs.Reading.{readingIn}
@@ -20,7 +20,7 @@ use Rattle.record.proofs.RoundTrip.{Shaped, length-record, read-back, w
 -- ---- reading a written record gives the ship back
 module _ (x : Ship) (shaped : Shaped x) (buf : List ℕ) (wrote : writingOf (length buf) x ≡ accepted) where
   right : (x .kind ≤ 1) × (x .n ≤ 8) × (first (shipLines x) ≡ accepted)
-  right = let p = writing-passed (length buf) x wrote in (p .0, p .1, p .2)
+  right = let p = writing-passed (length buf) x (ap (λ (v : Paper). v .number) wrote) in (p .0, p .1, p .2)
 
   -- from the bytes that the buffer then holds; places beyond n read as zero
   pub read-what-was-written : readingIn (take (recordLength (x .n)) (written (writingOf (length buf) x) x buf)) ≡ record { verdict = accepted; ship = clean x }

@@ -75,11 +75,12 @@ pub fn write(buf: &mut [u8], x: Ship) -> Verdict
     ensures { λ v. ⌜ now (buf .exit) ≡ written (paper v) x (now (buf .entry)) ⌝ }
 {
     let v = verdict(x, buf.len());
-    match v {
-        Verdict::Accepted => {
-            put_record(buf, x);
-            Verdict::Accepted
-        }
-        Verdict::Refused(r) => Verdict::Refused(r),
+    let good = match v {
+        Verdict::Accepted => true,
+        Verdict::Refused(_) => false,
+    };
+    if good {
+        put_record(buf, x);
     }
+    v
 }

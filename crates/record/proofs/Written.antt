@@ -1,6 +1,6 @@
 -- What the writer's verdict is once type and count are right, what an accepted one shows, and what the parts that write the ship need of it.
 use Prim.Native.Nat.{ℕ, _≤_}
-use mathlib.Core.List.{List, [], _∷_}
+use mathlib.Core.List.{[], _∷_}
 use mathlib.Core.Path.{_≡_, refl, _∙_}
 use lib.Dec.{eqb, ltb}
 use borrow.Author.Tests.{le-ltb, ltb-false}
@@ -9,13 +9,12 @@ use Rattle.whole.specs.Pick.{pick}
 use Rattle.bits.specs.Fields.{Fit}
 use Rattle.ship.specs.declared.Ship.{Ship}
 use Rattle.ship.specs.Vessel.{housesOf}
-use Rattle.ship.specs.declared.refusal.Refusal.{Refusal}
-use Rattle.ship.specs.Refusals.{accepted, refused, numberOf, placeOf, first}
+use Rattle.ship.specs.Refusals.{accepted, refused, first}
 use Rattle.ship.specs.Checks.{shipLines}
 use Rattle.ship.specs.Good.{Good}
-use Rattle.ship.proofs.Lines.{all-pass, all-pass-split, first-append, first-passed, beside-refusal}
+use Rattle.ship.proofs.Lines.{all-pass, all-pass-split, first-append, first-passed}
 use Rattle.record.specs.Layout.{recordLength, headWidths, headFields, shipHead, Low}
-use Rattle.record.specs.Writing.{writeLines, writingOf, written}
+use Rattle.record.specs.Writing.{writeLines, writingOf}
 
 -- the ship's own checks, then the room
 pub writing-judged : (room : ℕ) (x : Ship) → x .kind ≤ 1 → x .n ≤ 8
@@ -36,11 +35,6 @@ writing-passed room x e =
     let p = all-pass (writeLines room x) (omega arith) e in
     let r = all-pass-split (shipLines x) ((ltb room (recordLength (x .n)), refused 17 0) ∷ []) (p .1 .1) in
     (ltb-false 1 (x .kind) (p .0), ltb-false 8 (x .n) (p .1 .0), first-passed (shipLines x) (r .0), ltb-false room (recordLength (x .n)) (r .1 .0))
-
--- a refusal changes nothing
-pub written-refused : (r : Refusal) (x : Ship) (b : List ℕ) → written (refused (numberOf r) (placeOf r)) x b ≡ b
-unfolding written
-written-refused r x b = beside-refusal r _ b
 
 pub head-fits : (x : Ship) → x .kind ≤ 1 → x .n ≤ 8 → Good x → Fit headWidths (headFields (shipHead x))
 head-fits x k n g = omega arith

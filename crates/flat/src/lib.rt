@@ -2,7 +2,6 @@
 ghost use mathlib.Core.Path.{_≡_};
 ghost use Prim.Native.Nat.{_<_};
 ghost use mathlib.Core.List.{map};
-ghost use Rattle.record.specs.Layout.{bit};
 ghost use Rattle.flat.specs.Flat.{sheerMm, houseOf, shipOf, ordinateFrom, houseFrom, shipFrom, Near, NearHouses, NearSheer};
 use ship::House;
 use ship::Ship;
@@ -37,18 +36,12 @@ pub struct FlatShip {
 }
 
 // ---- from the steps' ship
-fn flag(b: bool) -> u64
-    ensures { λ r. ⌜ r ≡ bit b ⌝ }
-{
-    if b { 1 } else { 0 }
-}
-
 fn of_house(h: House) -> FlatHouse
     requires { ⌜ Near h ⌝ }
     ensures { λ r. ⌜ r ≡ houseOf h ⌝ }
 {
-    let enclosed = flag(h.enclosed);
-    let quarterdeck = flag(h.quarterdeck);
+    let enclosed = record::bit_of(h.enclosed);
+    let quarterdeck = record::bit_of(h.quarterdeck);
     let aft = units::mm_of_station(h.aft);
     let fore = units::mm_of_station(h.fore);
     FlatHouse {

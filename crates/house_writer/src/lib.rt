@@ -3,26 +3,19 @@ ghost use mathlib.Core.Path.{_≡_};
 ghost use Prim.Native.Nat.{_≤_, _<_};
 ghost use mathlib.Core.List.{_++_};
 ghost use lib.ListN.{length, take, drop};
-ghost use Rattle.record.specs.Layout.{recordLength, bit, Low, houseBytes, housesBytes};
+ghost use Rattle.record.specs.Layout.{recordLength, Low, houseBytes, housesBytes};
 use record::HEAD_BYTES;
 use record::HOUSE_BYTES;
 use record::range;
 use ship::House;
-
-// A flag's bit.
-fn bit_of(b: bool) -> u64
-    ensures { λ r. ⌜ (r ≡ bit b) × (r < 2) ⌝ }
-{
-    if b { 1 } else { 0 }
-}
 
 // Writes a house over eight bytes: in its word each field shifts those before it up by its range. The spare bits are 0.
 fn put_house(out: &mut [u8], h: House)
     requires { ⌜ (length (now out) ≡ 8) × (h .height .0 < 8192) ⌝ }
     ensures { λ _. ⌜ now (out .exit) ≡ houseBytes h ⌝ }
 {
-    let word = bit_of(h.enclosed);
-    let word = word * range::FLAG + bit_of(h.quarterdeck);
+    let word = record::bit_of(h.enclosed);
+    let word = word * range::FLAG + record::bit_of(h.quarterdeck);
     let word = word * range::END + record::station_field(h.aft);
     let word = word * range::END + record::station_field(h.fore);
     let word = word * range::HEIGHT + h.height.0;

@@ -1,32 +1,26 @@
 -- The promises of document 01 about the record, each in one statement.
 use Prim.Native.Nat.{ℕ, _+_, _-_, _≤_}
-use mathlib.Core.List.{List, [], _∷_, _++_}
+use mathlib.Core.List.{List, _++_}
 use mathlib.Core.Path.{_≡_, refl, sym, ap, _∙_}
-use lib.Dec.{ltb}
 use lib.ListN.{length, take, drop, replicate}
 use lib.Seq.{take-at, length-take-le}
-use borrow.Author.Tests.{ltb-false}
 use native.Mathlib.Omega.{arith}
 use Rattle.whole.specs.Pick.{pick}
 use Rattle.bits.specs.Fields.{Bytes}
 use Rattle.ship.specs.declared.Ship.{Ship}
 use Rattle.ship.specs.Vessel.{noHouse, housesOf, clean, Same}
-use Rattle.ship.specs.Refusals.{Paper, accepted, refused, first}
+use Rattle.ship.specs.Refusals.{Paper, accepted, first}
 use Rattle.ship.specs.Checks.{shipLines}
-use Rattle.ship.proofs.Lines.{all-pass, all-pass-split, first-passed}
 use Rattle.record.specs.Layout.{recordLength, recordBytes}
 use Rattle.record.specs.Reading.{readingIn}
-use Rattle.record.specs.Writing.{writeLines, writingOf, written}
+use Rattle.record.specs.Writing.{writingOf, written}
+use Rattle.record.proofs.Written.{writing-passed}
 use Rattle.record.proofs.RoundTrip.{Shaped, length-record, read-back, write-back, length-there, writes-back}
 
 -- ---- reading a written record gives the ship back
 module _ (x : Ship) (shaped : Shaped x) (buf : List ℕ) (wrote : writingOf (length buf) x ≡ accepted) where
   right : (x .kind ≤ 1) × (x .n ≤ 8) × (first (shipLines x) ≡ accepted)
-  unfolding writingOf
-  right =
-      let p = all-pass (writeLines (length buf) x) (omega arith) (ap (λ (v : Paper). v .number) wrote) in
-      let r = all-pass-split (shipLines x) ((ltb (length buf) (recordLength (x .n)), refused 17 0) ∷ []) (p .1 .1) in
-      (ltb-false 1 (x .kind) (p .0), ltb-false 8 (x .n) (p .1 .0), first-passed (shipLines x) (r .0))
+  right = let p = writing-passed (length buf) x (ap (λ (v : Paper). v .number) wrote) in (p .0, p .1, p .2)
 
   -- from the bytes that the buffer then holds; places beyond n read as zero
   pub read-what-was-written : readingIn (take (recordLength (x .n)) (written (writingOf (length buf) x) x buf)) ≡ record { verdict = accepted; ship = clean x }

@@ -2,7 +2,7 @@
 ghost use mathlib.Core.Path.{_≡_};
 ghost use Prim.Native.Nat.{_*_, _≤_, _<_};
 ghost use Rattle.units.specs.Datum.{datum, lift};
-ghost use Rattle.record.specs.Layout.{turn};
+ghost use Rattle.record.specs.Layout.{turn, bit};
 use units::AP;
 use units::LIFT;
 use units::Ordinate;
@@ -42,6 +42,13 @@ pub struct Head {
     pub sheer: [Ordinate; 6],
     pub displacement: u64,
     pub immersion: u64,
+}
+
+// A flag's bit.
+pub fn bit_of(b: bool) -> u64
+    ensures { λ r. ⌜ (r ≡ bit b) × (r < 2) ⌝ }
+{
+    if b { 1 } else { 0 }
 }
 
 // ---- signed fields

@@ -1,5 +1,6 @@
 // Why a call refuses: a case for each number of document 01, with the place where it has one.
 ghost use mathlib.Core.Path.{_≡_};
+ghost use lib.Dec.{eqb};
 ghost use Rattle.whole.specs.Pick.{pick};
 ghost use Rattle.ship.specs.Refusals.{numberOf, placeOf, paper, refused};
 
@@ -86,4 +87,14 @@ pub fn line(fails: bool, r: Refusal, below: Verdict) -> Verdict
         return Verdict::Refused(r);
     }
     below
+}
+
+// A verdict that refuses, or what the lines below it say.
+pub fn after(v: Verdict, below: Verdict) -> Verdict
+    ensures { λ r. ⌜ paper r ≡ pick (eqb (paper v .number) 0) (paper below) (paper v) ⌝ }
+{
+    match v {
+        Verdict::Accepted => below,
+        Verdict::Refused(r) => Verdict::Refused(r),
+    }
 }

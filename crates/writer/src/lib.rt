@@ -12,6 +12,7 @@ use record::HEAD_BYTES;
 use record::HOUSE_BYTES;
 use record::Head;
 use ship::Ship;
+use ship::refusal;
 use ship::refusal::Refusal;
 use ship::refusal::Verdict;
 
@@ -52,10 +53,9 @@ fn put_record(buf: &mut [u8], x: Ship)
     house_writer::put_houses(buf, houses, x.n);
 }
 
-// Writes a ship's record at the start of `buf`: refusals 3, 4, 7 to 11 and 17, in the table's order.
-pub fn write(buf: &mut [u8], x: Ship) -> Verdict
-    ensures { λ v. ⌜ paper v ≡ writingOf (length (now (buf .entry))) x ⌝ }
-    ensures { λ v. ⌜ now (buf .exit) ≡ written (paper v) x (now (buf .entry)) ⌝ }
+// The verdict on writing a ship into `room` bytes: refusals 3, 4, 7 to 11 and 17, in the table's order.
+fn verdict(x: Ship, room: usize) -> Verdict
+    ensures { λ v. ⌜ paper v ≡ writingOf room x ⌝ }
 {
     if x.kind > record::LAST_TYPE {
         return Verdict::Refused(Refusal::ShipType);
@@ -63,15 +63,24 @@ pub fn write(buf: &mut [u8], x: Ship) -> Verdict
     if x.n as u64 > record::MOST_HOUSES {
         return Verdict::Refused(Refusal::HouseCount);
     }
-    let v = checks::of_ship(x);
-    match v {
-        Verdict::Accepted => {
-            if buf.len() < HEAD_BYTES + HOUSE_BYTES * x.n {
-                return Verdict::Refused(Refusal::ShortBuffer);
-            }
-            put_record(buf, x);
-            Verdict::Accepted
-        }
-        Verdict::Refused(r) => Verdict::Refused(r),
+    let short = room < HEAD_BYTES + HOUSE_BYTES * x.n;
+    let last = refusal::line(short, Refusal::ShortBuffer, Verdict::Accepted);
+    let checked = checks::of_ship(x);
+    refusal::after(checked, last)
+}
+
+// Writes a ship's record at the start of `buf`, unless it is refused.
+pub fn write(buf: &mut [u8], x: Ship) -> Verdict
+    ensures { λ v. ⌜ paper v ≡ writingOf (length (now (buf .entry))) x ⌝ }
+    ensures { λ v. ⌜ now (buf .exit) ≡ written (paper v) x (now (buf .entry)) ⌝ }
+{
+    let v = verdict(x, buf.len());
+    let good = match v {
+        Verdict::Accepted => true,
+        Verdict::Refused(_) => false,
+    };
+    if good {
+        put_record(buf, x);
     }
+    v
 }

@@ -5,10 +5,10 @@ use native.Mathlib.Omega.{arith}
 use borrow.Author.Tests.{ltb-false}
 use lib.Dec.{ltb}
 use Rattle.whole.specs.Divide.{ceilDiv}
-use Rattle.whole.specs.Frac.{Frac, _≈f_, _<f?_, _-f_, _*f_, whole, frac}
+use Rattle.whole.specs.Frac.{Frac, _≈f_, _<f?_, _+f_, _-f_, _*f_, whole, frac}
 use Rattle.whole.specs.Round.{Within, Below}
 use Rattle.whole.proofs.Divide.{ceil-most, mul-most}
-use Rattle.whole.proofs.Frac.{bot-of, untested-frac, trans≈}
+use Rattle.whole.proofs.Frac.{bot-of, untested-frac, trans≈, *-mono≤}
 use Rattle.whole.proofs.Round.{loosen, restate, exactly, ceil-of, near-less, near-times, near-ceil}
 use Rattle.corrections.specs.Short29.{shortB, exactShortB}
 
@@ -30,12 +30,13 @@ short-quotient l e p =
     ceil-of ((350 * l - e) * (3 * (100000 - l))) (400 * l) {x = exactShortB l (whole e)} (omega arith)
     (trans≈ (record { eq = rw (bot-of (400 * l) (omega arith), z) (omega arith) }) (one-product l (whole e) p))
 
--- an E that is short by up to 8 um costs 8 * 0.02375 um, at L = 24000, and the rounding 1
-pub short-within : (l e : ℕ) (x : Frac) → 24000 ≤ l → Below e x (whole 8) → Within (shortB l e) (exactShortB l x) (frac 6 5)
+-- an E that is short by s costs at most 0.02375 s, at L = 24000, and the rounding 1
+pub short-within : {s : Frac} (l e : ℕ) (x : Frac) → 24000 ≤ l → Below e x s → Within (shortB l e) (exactShortB l x) (s *f frac 19 800 +f whole 1)
 unfolding shortB
-short-within l e x h w =
-    loosen (omega arith)
-    (near-ceil (restate (one-product l x (omega arith)) (one-product l (whole e) (omega arith))
+short-within {s} l e x h w =
+    near-ceil
+    (loosen (*-mono≤ {x = whole 0 +f s} {y = s} (omega arith) (omega arith))
+    (restate (one-product l x (omega arith)) (one-product l (whole e) (omega arith))
     (near-times (frac (3 * (100000 - l)) (400 * l)) (near-less (exactly (350 * l)) w))))
 
 -- it is largest at L = 24 m and E = 0

@@ -1,24 +1,25 @@
 -- What the houses of a list give to the steps, gathered; and how one more house before the others changes it. Each amount is the definition of 33 to 35, or of
--- 38's cover, that the steps name: nobody needs to believe this page.
+-- 38's cover, that the steps name, E by its sums: nobody needs to believe this page.
 use Prim.Native.Nat.{ℕ, _+_, _*_, _≤_}
 use mathlib.Core.List.{List}
 use Rattle.whole.specs.Pick.{pick}
 use Rattle.ship.specs.declared.House.{House}
 use Rattle.houses.specs.Length.{partOf, coveredLength}
-use Rattle.houses.specs.Effective.{effectiveOf, effectiveLength}
 use Rattle.houses.specs.Forecastle.{isForecastle, forecastleOf}
 use Rattle.houses.specs.Cover.{reachOf, reach}
+use Rattle.effective.specs.Unrounded.{topOf, unroundedOf, Fair}
+use Rattle.summed.specs.Summed.{summedOf, summedWith, effectiveOn, FairSummed}
 use Rattle.deck.specs.declared.Deck.{Deck}
 use Rattle.deck.specs.declared.Forecastle.{Forecastle}
 
 -- of the house that is the forecastle
 abbrev pub asForecastle : ℕ → House → Forecastle
-asForecastle l h = record { effective = record { 0 = effectiveOf l h }; part = record { 0 = partOf l h }; height = h .height }
+asForecastle l h = record { effective = unroundedOf l h; part = record { 0 = partOf l h }; height = h .height }
 
 unfoldable pub deckOf : ℕ → List House → Deck
 deckOf l hs = record {
   s = record { 0 = coveredLength l hs };
-  effective = record { 0 = effectiveLength l hs };
+  effective = summedOf l hs;
   reach = reach l hs;
   forecastle = asForecastle l (forecastleOf l hs);
 }
@@ -27,19 +28,17 @@ deckOf l hs = record {
 unfoldable pub deckWith : ℕ → House → Deck → Deck
 deckWith l h d = record {
   s = record { 0 = partOf l h + d .s .0 };
-  effective = record { 0 = effectiveOf l h + d .effective .0 };
+  effective = summedWith (h .quarterdeck) (topOf l h) (d .effective);
   reach = reachOf l h + d .reach;
   forecastle = pick (isForecastle l h) (asForecastle l h) (d .forecastle);
 }
 
--- E, of what a deck holds
-abbrev pub effectiveOn : Deck → ℕ
-effectiveOn d = d .effective .0
-
 -- amounts that leave room for what is worked with them
 pub record FairDeck (l : ℕ) (d : Deck) : Type 0 where
   pub s : d .s .0 ≤ l
-  pub e : effectiveOn d ≤ 1000 * l
+  pub sums : FairSummed (d .effective)
+  pub e : effectiveOn (d .effective) ≤ 1000 * l
   pub reach : d .reach ≤ 2 * l
+  pub forecastle : Fair (d .forecastle .effective)
   pub part : d .forecastle .part .0 ≤ l
   pub height : d .forecastle .height .0 ≤ 8191

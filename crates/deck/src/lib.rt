@@ -4,22 +4,23 @@ ghost use mathlib.Core.List.{[]};
 ghost use Prim.Native.Nat.{_≤_};
 ghost use lib.ListN.{take};
 ghost use Rattle.ship.specs.Good.{GoodHouse, GoodHouses};
-ghost use Rattle.deck.specs.Deck.{deckOf, deckWith, effectiveOn, FairDeck};
+ghost use Rattle.deck.specs.Deck.{deckOf, deckWith, FairDeck};
 use ship::House;
-use units::Effective;
+use summed::Summed;
 use units::Span;
+use units::Unrounded;
 
 // Of the forecastle: its effective length, l and its height, all 0 where there is none.
 pub struct Forecastle {
-    pub effective: Effective,
+    pub effective: Unrounded,
     pub part: Span,
     pub height: Span,
 }
 
-// S, the sum of the effective lengths, the cover's reach in tenths of a millimetre, and the forecastle.
+// S, the sums of the effective lengths, the cover's reach in tenths of a millimetre, and the forecastle.
 pub struct Deck {
     pub s: Span,
-    pub effective: Effective,
+    pub effective: Summed,
     pub reach: u64,
     pub forecastle: Forecastle,
 }
@@ -30,22 +31,22 @@ pub fn with_house(l: Span, h: House, d: Deck) -> Deck
     ensures { λ r. ⌜ r ≡ deckWith (l .0) h d ⌝ }
 {
     let part = houses::part(l, h);
-    let effective = effective::effective_of(l, h);
+    let own = effective::effective_of(l, h);
     let s = Span(part.0 + d.s.0);
-    let sum = Effective(effective.0 + d.effective.0);
+    let effective = summed::with_one(h.quarterdeck, own, d.effective);
     let reach = houses::reach_of(l, h) + d.reach;
     let mut forecastle = d.forecastle;
     if houses::is_forecastle(l, h) {
         let height = h.height;
         forecastle = Forecastle {
-            effective,
+            effective: own,
             part,
             height,
         };
     }
     Deck {
         s,
-        effective: sum,
+        effective,
         reach,
         forecastle,
     }
@@ -55,14 +56,16 @@ pub fn with_house(l: Span, h: House, d: Deck) -> Deck
 fn bare_deck(l: Span) -> Deck
     ensures { λ r. ⌜ r ≡ deckOf (l .0) [] ⌝ }
 {
+    let effective = summed::of_none(l);
+    let nothing = effective.ordinary;
     let forecastle = Forecastle {
-        effective: Effective(0),
+        effective: nothing,
         part: Span(0),
         height: Span(0),
     };
     Deck {
         s: Span(0),
-        effective: Effective(0),
+        effective,
         reach: 0,
         forecastle,
     }
@@ -82,11 +85,4 @@ pub fn deck_of(l: Span, hs: [House; 8], n: usize) -> Deck
         d = with_house(l, h, d);
     }
     d
-}
-
-// E: the sum of the effective lengths.
-pub fn effective_length(d: Deck) -> Effective
-    ensures { λ r. ⌜ r .0 ≡ effectiveOn d ⌝ }
-{
-    d.effective
 }

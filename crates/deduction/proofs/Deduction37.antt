@@ -8,14 +8,14 @@ use native.Mathlib.Nat.{div-mul-le-self, lt-div-mul-add, mul-one, one-mul}
 use borrow.Author.Tests.{ltb-true, lt-ltb, le-ltb}
 use lib.Dec.{ltb}
 use lib.ListN.{length, getD}
-use Rattle.whole.specs.Frac.{Frac, _≤f_, _*f_, whole, frac, floor}
+use Rattle.whole.specs.Frac.{Frac, _≤f_, _≈f_, _+f_, _*f_, whole, frac, floor}
 use Rattle.whole.specs.Pick.{pick}
 use Rattle.whole.specs.Round.{Below}
 use Rattle.whole.specs.Row.{Rising, height, along}
 use Rattle.whole.proofs.Pick.{by-cases, by-both}
 use Rattle.whole.proofs.Divide.{mul-most, floor-most, min-mul}
-use Rattle.whole.proofs.Frac.{bot-of, refl≤, trans≤, *-mono≤}
-use Rattle.whole.proofs.Round.{near-self, loosen, by-floor, floor-of, floor-under, floor-test, near-times, near-mult, near-floor, millionths-down}
+use Rattle.whole.proofs.Frac.{bot-of, refl≤, trans≤, *-mono≤, refl≈, <?-same}
+use Rattle.whole.proofs.Round.{near-self, loosen, by-floor, floor-of, floor-under, near-times, near-mult, near-floor, millionths-down}
 use Rattle.whole.proofs.Row.{heightIn, near-along, along-most, height-by, height-of-two, entry-rises, entry-most}
 use Rattle.deduction.specs.Deduction37.{full, exactFull, share, exactShare, ofFull, deduction, exactDeduction, lacksForecastle, deducted, exactDeducted}
 use Rattle.deduction.specs.Tenth37.{tenth, shareFrom}
@@ -45,12 +45,14 @@ pub full-from-122 : (l : ℕ) → 122000 ≤ l → 1070000 ≡ full l
 unfolding pick full exactFull
 full-from-122 l h = simp (le-ltb l 85000 (omega arith), le-ltb l 122000 h) (omega arith)
 
--- ---- the share: an E that is short by up to 8 um costs 180 * 1000 * 8 / 100 L millionths, and the rounding 1
-share-below : {row : List ℕ} → Rising 180 1000 row → (l e : ℕ) (x : Frac) → 24000 ≤ l → Below e x (whole 8)
-    → Below (share row l e) (exactShare row l x *f whole 1000000) (frac 8 5)
+-- ---- the share: an E that is short by s costs at most 180 * 1000 / 100 L millionths of it, at L = 24000, and the rounding 1
+share-below : {row : List ℕ} {s : Frac} → Rising 180 1000 row → (l e : ℕ) (x : Frac) → 24000 ≤ l → Below e x s
+    → Below (share row l e) (exactShare row l x *f whole 1000000) (s *f frac 3 40 +f whole 1)
 unfolding share exactShare
-share-below r l e x h w =
-    loosen (omega arith) (near-floor (near-times (whole 1000000) (near-times (frac 1 1000) (near-along r (near-times (frac 1 (100 * l)) w)))))
+share-below {s = s} r l e x h w =
+    near-floor
+    (loosen (trans≤ {y = s *f frac 180000 (100 * l)} (omega arith) (*-mono≤ (refl≤ s) (omega arith)))
+    (near-times (whole 1000000) (near-times (frac 1 1000) (near-along r (near-times (frac 1 (100 * l)) w)))))
 
 share-most : {m : ℕ} {row : List ℕ} → Rising m 1000 row → (l e : ℕ) → share row l e ≤ 1000000
 unfolding share exactShare
@@ -99,9 +101,9 @@ share-read {row} r n l e {j} {p} {q} h k a b c =
 pub neighbours : {row : List ℕ} → Rising 180 1000 row → length row ≡ 11 → {j p q : ℕ} → j ≤ 9 → p ≡ getD row j 0 → q ≡ getD row (j + 1) 0 → (p ≤ q) × (q ≤ 1000)
 neighbours r n {j} h b c = rw (b, c) (entry-rises r j (omega arith), entry-most r (j + 1))
 
--- ---- the product: 1 um of the full amount, 1.6 millionths of at most 1.07 m, and its own rounding
-pub deduction-below : {row : List ℕ} → Rising 180 1000 row → (l e : ℕ) (x : Frac) → 24000 ≤ l → Below e x (whole 8)
-    → Below (deduction row l e) (exactDeduction row l x) (whole 4)
+-- ---- the product: 1 um of the full amount, the share's millionths of at most 1.07 m, and its own rounding
+pub deduction-below : {row : List ℕ} {s : Frac} → Rising 180 1000 row → (l e : ℕ) (x : Frac) → 24000 ≤ l → Below e x s
+    → Below (deduction row l e) (exactDeduction row l x) (s *f frac 81 1000 +f frac 308 100)
 unfolding ofFull deduction exactDeduction
 deduction-below {row} r l e x h w =
     loosen (omega arith)
@@ -112,20 +114,22 @@ pub of-full-most : (l s : ℕ) → s ≤ 1000000 → ofFull l s ≤ 1070000
 unfolding ofFull
 of-full-most l s h = floor-most (full l * s) 1000000 1070000 (omega (arith, mul-most (full l) s 1070000 1000000 (full-most l) h))
 
--- ---- 0.07 L is a whole number of um, so the test on the forecastle's effective length rounded down is the test on the exact one
-pub lacks-rounded : (typeB : Bool) (f : Frac) (l : ℕ) → lacksForecastle typeB (whole (floor f)) l ≡ lacksForecastle typeB f l
+-- ---- the test on the forecastle's effective length as code has it: by the cross product, so that nothing is rounded
+pub lacks-quotient : (typeB : Bool) (top bottom l : ℕ) → 0 < bottom → lacksForecastle typeB (frac top bottom) l ≡ (typeB && ltb top (70 * l * bottom))
 unfolding lacksForecastle
-lacks-rounded typeB f l = ap (λ (t : Bool). typeB && t) (floor-test f (70 * l))
+lacks-quotient typeB top bottom l p = rw (mul-one top, bot-of bottom p) refl
 
-pub lacks-whole : (typeB : Bool) (f l : ℕ) → lacksForecastle typeB (whole f) l ≡ (typeB && ltb f (70 * l))
+-- and however the fraction is written
+pub lacks-same : (typeB : Bool) {f g : Frac} (l : ℕ) → f ≈f g → lacksForecastle typeB f l ≡ lacksForecastle typeB g l
 unfolding lacksForecastle
-lacks-whole typeB f l = rw (mul-one f, mul-one (70 * l)) refl
+lacks-same typeB l e = ap (λ (t : Bool). typeB && t) (<?-same e (refl≈ (whole (70 * l))))
 
 -- ---- as it is granted: where there is none, nothing is lost
 -- f is the forecastle's effective length
-pub deducted-below : {row : List ℕ} → Rising 180 1000 row → (typeB : Bool) (f : Frac) (l e : ℕ) (x : Frac) → 24000 ≤ l → Below e x (whole 8)
-    → Below (deducted typeB row f l e) (exactDeducted typeB row f l x) (whole 4)
+pub deducted-below : {row : List ℕ} {s : Frac} → Rising 180 1000 row → (typeB : Bool) (f : Frac) (l e : ℕ) (x : Frac) → 24000 ≤ l → Below e x s
+    → Below (deducted typeB row f l e) (exactDeducted typeB row f l x) (s *f frac 81 1000 +f frac 308 100)
 unfolding deducted exactDeducted
-deducted-below r typeB f l e x h w =
-    by-both (λ (c : ℕ) (y : Frac). Below c y (whole 4)) (lacksForecastle typeB f l) _ _ _ _
-    (λ t. near-self (whole 0) (whole 4)) (λ t. deduction-below r l e x h w)
+deducted-below {s = s} r typeB f l e x h w =
+    let m = s *f frac 81 1000 +f frac 308 100 in
+    by-both (λ (c : ℕ) (y : Frac). Below c y m) (lacksForecastle typeB f l) _ _ _ _
+    (λ t. near-self (whole 0) m) (λ t. deduction-below r l e x h w)

@@ -1,13 +1,14 @@
 // Regulation 37: what the houses deduct. The row of percentages is the caller's: it hands over two neighbours of it.
 ghost use mathlib.Core.Path.{_≡_};
 ghost use Prim.Native.Nat.{_*_, _≤_};
-ghost use Rattle.whole.specs.Frac.{whole};
+ghost use Rattle.whole.specs.Frac.{frac};
 ghost use Rattle.whole.specs.Pick.{pick};
 ghost use Rattle.deduction.specs.Deduction37.{full, ofFull, lacksForecastle};
 ghost use Rattle.deduction.specs.Tenth37.{tenth, shareFrom};
 use units::Effective;
 use units::Freeboard;
 use units::Span;
+use units::Unrounded;
 use units::freeboard_of_mm;
 use units::sum;
 use whole::lesser;
@@ -70,15 +71,15 @@ pub fn of_full(length: Span, share: u64) -> Freeboard
     Freeboard(mul_div_down(n, share, 1000000))
 }
 
-// The deduction, or none where the ship is of type B (`b`) and its forecastle is short, or missing and so of length 0.
-pub fn if_granted(b: bool, forecastle: Effective, length: Span, deduction: Freeboard) -> Freeboard
-    requires { ⌜ length .0 ≤ 365000 ⌝ }
-    ensures { λ r. ⌜ r .0 ≡ pick (lacksForecastle b (whole (forecastle .0)) (length .0)) 0 (deduction .0) ⌝ }
+// The deduction, or none where the ship is of type B (`b`) and its forecastle is short, or missing and so of length 0. The fraction itself is tested.
+pub fn if_granted(b: bool, forecastle: Unrounded, length: Span, deduction: Freeboard) -> Freeboard
+    requires { ⌜ (1 ≤ forecastle .bottom) × (forecastle .bottom ≤ 115000000) × (length .0 ≤ 365000) ⌝ }
+    ensures { λ r. ⌜ r .0 ≡ pick (lacksForecastle b (frac (forecastle .top) (forecastle .bottom)) (length .0)) 0 (deduction .0) ⌝ }
     ensures { λ r. ⌜ r .0 ≤ deduction .0 ⌝ }
 {
-    let f = forecastle.0;
+    let bottom = forecastle.bottom;
     let l = length.0;
-    if b & (f < 70 * l) {
+    if b & (forecastle.top < 70 * l * bottom) {
         return Freeboard(0);
     }
     deduction

@@ -1,64 +1,65 @@
-// The effective length of a house (33, 35): its length, limited, by its height over the standard height.
+// The effective length of a house (33, 35): its length, limited, by its height over the standard height. It is a fraction, which nothing here rounds.
 ghost use mathlib.Core.Path.{_≡_};
-ghost use Prim.Native.Nat.{_*_, _≤_};
+ghost use Prim.Native.Nat.{_*_, _≤_, _<_};
 ghost use Rattle.whole.specs.Frac.{frac, _≈f_};
-ghost use Rattle.houses.specs.Height.{ordinaryHeight, raisedHeight, standardHeight};
-ghost use Rattle.houses.specs.Effective.{limitedLength, effectiveOf};
-ghost use Rattle.effective.specs.Sized.{Sized};
+ghost use Rattle.houses.specs.Height as Height;
+ghost use Rattle.houses.specs.Effective.{limitedLength, exactEffective};
+ghost use Rattle.effective.specs.Unrounded.{standardOf, Sized, unroundedOf, Fair};
 use ship::House;
 use units::Effective;
 use units::Span;
+use units::Unrounded;
 use whole::lesser;
 
-// A standard height, size / per mm: unrounded.
+// A standard height, size / per mm.
 pub struct Standard {
     pub size: u64,
     pub per: u64,
 }
 
+// Linear from v at L = a to w at L = b.
+fn linear(a: u64, v: u64, b: u64, w: u64, l: u64) -> Standard
+    requires { ⌜ (a < b) × (b ≤ 125000) × (v ≤ w) × (w ≤ 2300) × (a ≤ l) × (l ≤ b) ⌝ }
+    ensures { λ r. ⌜ r ≡ standardOf (Height.linear a v b w l) ⌝ }
+{
+    Standard {
+        size: v * (b - a) + (w - v) * (l - a),
+        per: b - a,
+    }
+}
+
 // 33: the standard height of a house that is no raised quarterdeck.
 fn ordinary_height(l: u64) -> Standard
-    ensures { λ r. ⌜ frac (r .size) (r .per) ≈f ordinaryHeight l ⌝ }
-    ensures { λ r. ⌜ Sized r ⌝ }
+    ensures { λ r. ⌜ r ≡ standardOf (Height.ordinaryHeight l) ⌝ }
 {
     if l <= 75000 {
         return Standard { size: 1800, per: 1 };
     }
     if l < 125000 {
-        return Standard {
-            size: l + 105000,
-            per: 100,
-        };
+        return linear(75000, 1800, 125000, 2300, l);
     }
     Standard { size: 2300, per: 1 }
 }
 
 // 33: the standard height of a raised quarterdeck.
 fn raised_height(l: u64) -> Standard
-    ensures { λ r. ⌜ frac (r .size) (r .per) ≈f raisedHeight l ⌝ }
-    ensures { λ r. ⌜ Sized r ⌝ }
+    ensures { λ r. ⌜ r ≡ standardOf (Height.raisedHeight l) ⌝ }
 {
     if l <= 30000 {
         return Standard { size: 900, per: 1 };
     }
     if l <= 75000 {
-        return Standard {
-            size: l + 105000,
-            per: 150,
-        };
+        return linear(30000, 900, 75000, 1200, l);
     }
     if l < 125000 {
-        return Standard {
-            size: 3 * l + 75000,
-            per: 250,
-        };
+        return linear(75000, 1200, 125000, 1800, l);
     }
     Standard { size: 1800, per: 1 }
 }
 
 // 33: the standard height of a house.
-fn standard_height(l: Span, quarterdeck: bool) -> Standard
-    ensures { λ r. ⌜ frac (r .size) (r .per) ≈f standardHeight (l .0) quarterdeck ⌝ }
+pub fn standard_height(l: Span, quarterdeck: bool) -> Standard
+    ensures { λ r. ⌜ r ≡ standardOf (Height.standardHeight (l .0) quarterdeck) ⌝ }
     ensures { λ r. ⌜ Sized r ⌝ }
 {
     if quarterdeck {
@@ -81,15 +82,19 @@ fn limited_length(l: Span, h: House) -> Effective
     um
 }
 
-// 35: the effective length of a house, rounded down.
-pub fn effective_of(l: Span, h: House) -> Effective
+// 35: the effective length of a house, over the numerator of its standard height: houses that share the one share the other, and so can be added.
+pub fn effective_of(l: Span, h: House) -> Unrounded
     requires { ⌜ (l .0 ≤ 365000) × (h .height .0 ≤ 8191) ⌝ }
-    ensures { λ r. ⌜ r .0 ≡ effectiveOf (l .0) h ⌝ }
-    ensures { λ r. ⌜ r .0 ≤ 1000 * l .0 ⌝ }
+    ensures { λ r. ⌜ frac (r .top) (r .bottom) ≈f exactEffective (l .0) h ⌝ }
+    ensures { λ r. ⌜ r ≡ unroundedOf (l .0) h ⌝ }
+    ensures { λ r. ⌜ Fair r ⌝ }
 {
     let length = limited_length(l, h);
     let standard = standard_height(l, h.quarterdeck);
     let size = standard.size;
     let height = lesser(h.height.0 * standard.per, size);
-    Effective(whole::mul_div_down(length.0, height, size))
+    Unrounded {
+        top: length.0 * height,
+        bottom: size,
+    }
 }

@@ -31,6 +31,7 @@ use Rattle.marks.specs.Marks as Marks
 use Rattle.trial.specs.Poop as Poop
 use Rattle.question.specs.Question as Question
 use Rattle.figures.specs.Figures.{k1, k2, bowHeight, marksRow, askedRow, house, figures, agree, allAgree}
+use Rattle.figures.specs.Requests.{requests}
 
 -- what a figure computes through
 unfoldable pub Tools : Type 0
@@ -42,7 +43,7 @@ unfolding Fields.pack Fields.piece Fields.unpack Fields.number Layout.houseIn La
 Reader = Unit {0}
 
 unfoldable pub Houses : Type 0
-unfolding Length.partOf Length.total Length.coveredLength Height.ordinaryHeight Height.raisedHeight Height.standardHeight Effective.limitedLength Effective.exactEffective Effective.effectiveOf Effective.effectiveLength Forecastle.houseThat Forecastle.isForecastle Forecastle.forecastleOf Cover.isAmidships Cover.reachOf Cover.reach
+unfolding Length.partOf Length.total Length.coveredLength Height.ordinaryHeight Height.raisedHeight Height.standardHeight Effective.limitedLength Effective.exactEffective Effective.exactEffectiveLength Effective.those Effective.effectiveLength Forecastle.houseThat Forecastle.isForecastle Forecastle.forecastleOf Cover.isAmidships Cover.reachOf Cover.reach
 Houses = Unit {0}
 
 unfoldable pub Corrections : Type 0
@@ -60,3 +61,8 @@ Asking = Unit {0}
 pub claim : T (allAgree figures)
 unfolding k1 k2 bowHeight marksRow askedRow house figures agree allAgree Tools Reader Houses Corrections Marking Asking
 claim = tt
+
+-- and every figure of 02
+pub claim-02 : T (allAgree requests)
+unfolding house requests agree allAgree Tools Houses
+claim-02 = tt

@@ -16,7 +16,7 @@ use Rattle.ship.specs.declared.Ship.{Ship}
 use Rattle.record.specs.Layout.{headFields, headIn, houseFields, houseIn, houseAt, shipIn}
 use Rattle.houses.specs.Length.{coveredLength}
 use Rattle.houses.specs.Height.{standardHeight}
-use Rattle.houses.specs.Effective.{exactEffective, effectiveOf}
+use Rattle.houses.specs.Effective.{exactEffective, effectiveLength}
 use Rattle.houses.specs.Cover.{reach}
 use Rattle.corrections.specs.Fullness30.{counted}
 use Rattle.corrections.specs.Depth31.{depthAddition}
@@ -133,7 +133,7 @@ figures =
     ∷ one 8 (depthAddition 100000 8000) 277778
     ∷ heightRow 9 (standardHeight 100000 false) 2050
     ∷ heightRow 9 (standardHeight 100000 true) 1500
-    ∷ one 10 (effectiveOf 100000 (house 0 10000 1000)) 4878048
+    ∷ one 10 (effectiveLength 100000 (house 0 10000 1000 ∷ [])) 4878048
     ∷ one 11 (sheerAdds level []) 375188
     ∷ one 12 (sheerDeducts doubled []) 0
     ∷ one 12 (sheerDeducts doubled (house 36000 54000 2000 ∷ [])) 112500

@@ -1,10 +1,11 @@
--- The house that passes a test; and the forecastle, of which there is at most one: the last house.
+-- The house that passes a test; the forecastle, of which there is at most one, the last house; and the raised quarterdeck: at most one, the first.
 use mathlib.Core.Path.{_≡_, refl}
 use mathlib.Core.Bool.{Bool, true, false, and-eq-true-iff}
 use mathlib.Core.List.{List, [], _∷_}
 use Prim.Native.Nat.{ℕ, zero, suc, _+_, _≤_, _<_}
 use native.Mathlib.Omega.{arith}
 use native.Mathlib.Decide.{decLt}
+use native.Mathlib.Numerals.{add-one}
 use borrow.Author.Tests.{leb-true}
 use lib.Dec.{leb}
 use lib.ListN.{length}
@@ -25,7 +26,7 @@ of-that P test (h ∷ hs) n each = go (test h) (of-that P test hs n (λ k p. eac
     go true r = each 0 (omega arith)
     go false r = r
 
--- the forecastle is the last house
+-- the forecastle is the last house, and the raised quarterdeck the first
 module _ (l : ℕ) (hs : List House) (g : GoodHouses l hs) where
   at-fore-end : (k : ℕ) → isForecastle l (houseAt hs k) ≡ true → stationOf l ≤ houseAt hs k .fore .0
   unfolding isForecastle
@@ -37,3 +38,10 @@ module _ (l : ℕ) (hs : List House) (g : GoodHouses l hs) where
         | yes p ↦ absurd (omega (arith, g .order k p, g .each (k + 1) p .abaft, at-fore-end k e))
         | no p ↦ omega arith
       ]
+
+  -- any other begins where the one before it has ended, forward of AP
+  pub quarterdeck-first : (k : ℕ) → k < length hs → houseAt hs k .quarterdeck ≡ true → k ≡ 0
+  quarterdeck-first zero h e = refl
+  quarterdeck-first (suc k) h e =
+      let o = rw (add-one k) at (g .order k (omega arith)) in
+      absurd (omega (arith, o, g .each k (omega arith) .ahead, g .each (suc k) h .quarterdeck e))

@@ -1,55 +1,61 @@
--- 35: effective lengths, rounded and exact.
-use mathlib.Core.Path.{_≡_, ap}
+-- 35: E, rounded and exact.
+use mathlib.Core.Bool.{Bool, true, false, not}
 use mathlib.Core.List.{List, [], _∷_}
-use Prim.Native.Nat.{ℕ, _*_, _/_, _≤_, _<_, min}
+use Prim.Native.Nat.{ℕ, _+_, _*_, _≤_}
 use native.Mathlib.Omega.{arith}
-use native.Mathlib.Nat.{min-eq-left, min-eq-right, mul-lt-mul-of-pos-right, mul-le-mul-right, lt-of-mul-lt-mul-right, le-of-mul-le-mul-right}
-use borrow.Author.Tests.{ltb-true, ltb-false}
-use lib.ListN.{length}
+use native.Mathlib.Nat.{mul-lt-mul-of-pos-right, lt-div-mul-add}
 use Rattle.whole.specs.Pick.{pick}
-use Rattle.whole.proofs.Pick.{by-cases}
-use Rattle.whole.specs.Frac.{Frac, _≈f_, whole, frac, _*f_, _÷f_, _<f?_}
-use Rattle.whole.proofs.Frac.{bot-of}
+use Rattle.whole.specs.Frac.{Frac, _≤f_, _<f_, _≈f_, whole, _+f_, floor}
+use Rattle.whole.proofs.Frac.{refl≈, same, sym≈, trans≈, trans≤, trans≤<, +-same}
 use Rattle.whole.specs.Round.{Below}
-use Rattle.whole.proofs.Round.{by-floor, floor-of, exactly, below-sum, loosen}
+use Rattle.whole.proofs.Round.{by-floor, below-sum}
 use Rattle.ship.specs.declared.House.{House}
-use Rattle.houses.specs.Length.{total}
-use Rattle.houses.specs.Height.{standardHeight}
-use Rattle.houses.specs.Effective.{limitedLength, exactEffective, effectiveOf, effectiveLength, exactEffectiveLength}
+use Rattle.ship.specs.Good.{GoodHouses}
+use Rattle.houses.specs.Length.{coveredLength}
+use Rattle.houses.specs.Effective.{exactEffective, exactEffectiveLength, those, isOrdinary, isRaised, effectiveLength}
+use Rattle.houses.proofs.Counted.{covered-most}
+use Rattle.houses.proofs.Limits.{exact-by-covered}
 
--- ---- never above the exact length, and short of it by at most 1 um for each house
-pub effective-below : (l : ℕ) (h : House) → Below (effectiveOf l h) (exactEffective l h) (whole 1)
-unfolding effectiveOf
-effective-below l h = by-floor (exactEffective l h)
+-- the ordinary houses and the raised quarterdecks together are the list
+both-kinds : (l : ℕ) (hs : List House)
+    → exactEffectiveLength l (those isOrdinary hs) +f exactEffectiveLength l (those isRaised hs) ≈f exactEffectiveLength l hs
+unfolding exactEffectiveLength those pick
+both-kinds l [] = omega arith
+both-kinds l (h ∷ hs) = trans≈ (go (h .quarterdeck)) (+-same (refl≈ (exactEffective l h)) (both-kinds l hs))
+  where
+    go : (q : Bool)
+        → exactEffectiveLength l (pick (not q) (h ∷ those isOrdinary hs) (those isOrdinary hs))
+        +f exactEffectiveLength l (pick q (h ∷ those isRaised hs) (those isRaised hs))
+        ≈f exactEffective l h +f (exactEffectiveLength l (those isOrdinary hs) +f exactEffectiveLength l (those isRaised hs))
+    go true = omega arith
+    go false = omega arith
 
-pub effective-length-below : (l : ℕ) (hs : List House) → Below (effectiveLength l hs) (exactEffectiveLength l hs) (whole (length hs))
-unfolding effectiveLength exactEffectiveLength total
-effective-length-below l [] = exactly 0
-effective-length-below l (h ∷ hs) = loosen (omega arith) (below-sum (effective-below l h) (effective-length-below l hs))
+-- two fractions, each rounded down: never above their sum, and less than 2 below it
+floors-under : (x y : Frac) → whole (floor x + floor y) ≤f x +f y
+floors-under x y = below-sum (by-floor x) (by-floor y) .above
 
-pub effective-length-short : (l : ℕ) (hs : List House) → length hs ≤ 8 → Below (effectiveLength l hs) (exactEffectiveLength l hs) (whole 8)
-effective-length-short l hs n = loosen (omega arith) (effective-length-below l hs)
+floors-over : (x y : Frac) → x +f y <f whole (floor x + floor y + 2)
+floors-over x y =
+    omega (
+      arith,
+      mul-lt-mul-of-pos-right (lt-div-mul-add {a = x .top} (x .pos)) (y .pos),
+      mul-lt-mul-of-pos-right (lt-div-mul-add {a = y .top} (y .pos)) (x .pos),
+    )
 
--- ---- what code computes: the quotient by a standard height of size / per mm
--- a height is below the standard height where its product with `per` is below `size`
-module _ (m h size per : ℕ) (s : Frac) (a : 0 < size) (b : 0 < per) (e : frac size per ≈f s) where
-  lower : frac (m * min (h * per) size) size ≈f pick (whole h <f? s) (whole m *f (whole h ÷f s)) (whole m)
-  lower =
-      let q : size * s .bot ≡ s .top * per = rw (bot-of per b) at (e .eq) in
-      by-cases (λ (x : Frac). frac (m * min (h * per) size) size ≈f x) (whole h <f? s) _ _
-      (λ t.
-      let u = ltb-true (h * s .bot) (s .top * 1) t in
-      let p : h * per < size = lt-of-mul-lt-mul-right (s .bot) (omega (arith, mul-lt-mul-of-pos-right u b)) in
-      rw (min-eq-left {n = h * per} {m = size} (omega arith))
-      (record { eq = rw (bot-of size a, bot-of (1 * s .top) (omega arith)) (omega (arith, ap (λ (k : ℕ). m * h * k) q)) }))
-      (λ t.
-      let u = ltb-false (h * s .bot) (s .top * 1) t in
-      let p : size ≤ h * per = le-of-mul-le-mul-right {k = s .bot} (omega (arith, mul-le-mul-right per u)) (s .pos) in
-      rw (min-eq-right {n = size} {m = h * per} p) (record { eq = rw (bot-of size a) (omega arith) }))
+-- ---- E is never above the exact E, and less than 2 um below it
+pub effective-under : (l : ℕ) (hs : List House) → whole (effectiveLength l hs) ≤f exactEffectiveLength l hs
+unfolding effectiveLength
+effective-under l hs =
+    trans≤ (floors-under (exactEffectiveLength l (those isOrdinary hs)) (exactEffectiveLength l (those isRaised hs))) (same (both-kinds l hs))
 
-pub effective-quotient : (l : ℕ) (h : House) (size per : ℕ) → 0 < size → 0 < per → frac size per ≈f standardHeight l (h .quarterdeck)
-    → limitedLength l h * min (h .height .0 * per) size / size ≡ effectiveOf l h
-unfolding effectiveOf exactEffective
-effective-quotient l h size per a b e =
-    let m = limitedLength l h in
-    floor-of (m * min (h .height .0 * per) size) size {x = exactEffective l h} a (lower m (h .height .0) size per (standardHeight l (h .quarterdeck)) a b e)
+pub effective-over : (l : ℕ) (hs : List House) → exactEffectiveLength l hs <f whole (effectiveLength l hs + 2)
+unfolding effectiveLength
+effective-over l hs =
+    trans≤< (same (sym≈ (both-kinds l hs))) (floors-over (exactEffectiveLength l (those isOrdinary hs)) (exactEffectiveLength l (those isRaised hs)))
+
+pub effective-length-below : (l : ℕ) (hs : List House) → Below (effectiveLength l hs) (exactEffectiveLength l hs) (whole 2)
+effective-length-below l hs = record { above = effective-under l hs; close = omega (arith, effective-over l hs) }
+
+-- ---- E is at most 1000 L
+pub effective-length-most : (l : ℕ) (hs : List House) → GoodHouses l hs → effectiveLength l hs ≤ 1000 * l
+effective-length-most l hs g = omega (arith, trans≤ (effective-under l hs) (exact-by-covered l hs), covered-most l hs g)

@@ -1,9 +1,8 @@
 -- Demand 2: the summer mark of every accepted ship is never below its exact value, and less than 1.1 mm above it.
--- What each rounding can cost adds up along the formula: 3.7 um up to depth, 4 um in the houses' deduction, 2 um in sheer; 13 um in the bow's freeboard.
+-- What each rounding can cost adds up along the formula: 3.45 um up to depth, 3.25 um in the houses' deduction, 2 um in sheer; 13 um in the bow's freeboard.
 -- Before the last rounding, to whole mm, 100 um would do (`summer-holds`).
 use Prim.Native.Nat.{_*_, _-_, _≤_}
 use native.Mathlib.Omega.{arith}
-use lib.ListN.{length-take}
 use Rattle.whole.specs.Frac.{_-f_, whole, frac}
 use Rattle.whole.specs.Round.{Within, Below}
 use Rattle.whole.proofs.Pick.{by-cases}
@@ -16,7 +15,7 @@ use Rattle.ship.specs.declared.Ship.{Ship}
 use Rattle.ship.specs.Vessel.{housesOf}
 use Rattle.houses.specs.Length.{partOf}
 use Rattle.houses.specs.Effective.{exactEffective}
-use Rattle.houses.proofs.Rounded.{effective-length-short}
+use Rattle.houses.proofs.Rounded.{effective-length-below}
 use Rattle.houses.proofs.Midship.{reach-most}
 use Rattle.corrections.specs.Fullness30.{counted}
 use Rattle.corrections.proofs.Gathered.{added-within}
@@ -34,21 +33,21 @@ line-exact : (x : Ship) → Within (basis x .line) (basis x .exact) (whole 0)
 unfolding basisOf
 line-exact x = by-cases (λ (b : Basis). Within (b .line) (b .exact) (whole 0)) (typeB x) _ _ (λ t. exactly _) (λ t. exactly _)
 
--- E is short by at most 8 um
-short : (x : Ship) → Sound x → Below (effectiveE x) (exactE x) (whole 8)
+-- E is short by at most 2 um
+short : (x : Ship) → Below (effectiveE x) (exactE x) (whole 2)
 unfolding effectiveE exactE
-short x k = effective-length-short (x .length .0) (housesOf x) (omega (arith, length-take (x .n) (x .houses), k .few))
+short x = effective-length-below (x .length .0) (housesOf x)
 
--- the corrected value, what is added less what is taken: never below the exact difference, and at most 9.7 um above it
-pub corrected-within : (x : Ship) → Sound x → Within (addedTo x - takenFrom ordinaryRow x) (exactAddedTo x -f exactTakenFrom ordinaryRow x) (frac 97 10)
+-- the corrected value, what is added less what is taken: never below the exact difference, and at most 8.7 um above it
+pub corrected-within : (x : Ship) → Sound x → Within (addedTo x - takenFrom ordinaryRow x) (exactAddedTo x -f exactTakenFrom ordinaryRow x) (frac 87 10)
 unfolding addedTo takenFrom exactAddedTo exactTakenFrom
 corrected-within x k =
     let g = k .good in
     let l = x .length .0 in
-    let w = short x k in
+    let w = short x in
     let r : coverReach x ≤ 2 * l = unfold coverReach in reach-most l (housesOf x) (g .houses) in
-    let a = loosen {f = frac 37 10} (omega arith) (added-within (line-exact x) (typeB x) l (x .depth .0) (counted (x .block)) (effectiveE x) (exactE x) (g .length-least) (omega arith) w) in
-    let d = deducted-below (each-row Ordinary .rising) (typeB x) (exactEffective l (forecastleHouse x)) l (effectiveE x) (exactE x) (g .length-least) w in
+    let a = loosen {f = frac 345 100} (omega arith) (added-within (line-exact x) (typeB x) l (x .depth .0) (counted (x .block)) (effectiveE x) (exactE x) (g .length-least) (omega arith) w) in
+    let d = loosen {f = frac 325 100} (omega arith) (deducted-below (each-row Ordinary .rising) (typeB x) (exactEffective l (forecastleHouse x)) l (effectiveE x) (exactE x) (g .length-least) w) in
     loosen (omega arith) (sheer-within (x .sheer) l (coveredS x) (coverReach x) (omega arith) r a d)
 
 -- the bow's freeboard: never below the exact one, and at most 13 um above it

@@ -10,27 +10,30 @@ use Rattle.percentages.specs.Table37.{ordinaryRow}
 use Rattle.ship.specs.declared.Ship.{Ship}
 use Rattle.ship.specs.Vessel.{housesOf}
 use Rattle.houses.specs.Length.{partOf}
-use Rattle.houses.specs.Effective.{exactEffective, effectiveOf}
 use Rattle.houses.specs.Forecastle.{forecastleOf}
 use Rattle.corrections.specs.Fullness30.{counted}
 use Rattle.deduction.specs.Deduction37.{deduction, deducted}
 use Rattle.corrections.specs.Gathered as Before
-use Rattle.deduction.proofs.Deduction37.{lacks-rounded}
+use Rattle.deduction.proofs.Deduction37.{lacks-same}
 use Rattle.sheer.specs.Sheer as Sheer
 use Rattle.bow.specs.Bow.{higher, lower, sheerTaken, forecastleTaken, bowFreeboard}
 use Rattle.mark.specs.Summer.{summerMark}
+use Rattle.effective.proofs.Unrounded.{unrounded-exact}
+use Rattle.summed.proofs.Sums.{effective-summed}
 use Rattle.deck.specs.Deck.{deckOf}
 use Rattle.steps.specs.Steps.{typeB, basis, coveredS, effectiveE, forecastleHouse, coverReach, addedTo, takenFrom, bowOf, summerOf}
 use Rattle.hull.specs.Parts.{hullOf}
 use Rattle.summer.specs.Parts.{addedOn, takenOn, bowOn, summerOn}
 
--- 37's test on the length that is rounded down is the one on the fraction
-taken-parts : (row : List ℕ) (x : Ship) → takenOn row (hullOf x) (deckOf (x .length .0) (housesOf x)) ≡ takenFrom row x
-unfolding takenOn hullOf deckOf takenFrom coveredS effectiveE forecastleHouse coverReach effectiveOf deducted Sheer.deducted
+-- the sums by kind give E; and 37's test says the same of the forecastle's fraction however it is written
+taken-parts : (row : List ℕ) (x : Ship)
+    → takenOn row (hullOf x) (deckOf (x .length .0) (housesOf x) .forecastle .effective) (effectiveE x) (Sheer.deducted (x .sheer) (x .length .0) (coveredS x) (coverReach x))
+    ≡ takenFrom row x
+unfolding takenOn hullOf deckOf takenFrom forecastleHouse deducted
 taken-parts row x =
     let l = x .length .0 in
     ap (λ (t : Bool). pick t 0 (deduction row l (effectiveE x)) + Sheer.deducted (x .sheer) l (coveredS x) (coverReach x))
-    (lacks-rounded (typeB x) (exactEffective l (forecastleOf l (housesOf x))) l)
+    (lacks-same (typeB x) l (unrounded-exact l (forecastleOf l (housesOf x))))
 
 bow-parts : (x : Ship) → bowOn (hullOf x) (deckOf (x .length .0) (housesOf x)) ≡ bowOf x
 unfolding bowOn hullOf deckOf bowOf forecastleHouse bowFreeboard
@@ -45,5 +48,5 @@ bow-parts x =
     ap (λ (n : ℕ). higher l (x .moulded .0) cb (x .waterplane) + sheerTaken (sheerAt (x .sheer) 4) lift - n) e
 
 pub summer-parts : (x : Ship) → summerOn (hullOf x) (deckOf (x .length .0) (housesOf x)) ≡ summerOf x
-unfolding summerOn addedOn hullOf deckOf summerOf addedTo coveredS effectiveE Before.added Sheer.added
-summer-parts x = ap₂ (summerMark (basis x .floor) (addedTo x)) (taken-parts ordinaryRow x) (bow-parts x)
+unfolding summerOn addedOn hullOf deckOf summerOf addedTo coveredS effectiveE coverReach Before.added Sheer.added Sheer.deducted
+summer-parts x = rw (effective-summed (x .length .0) (housesOf x)) (ap₂ (summerMark (basis x .floor) (addedTo x)) (taken-parts ordinaryRow x) (bow-parts x))

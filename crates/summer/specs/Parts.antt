@@ -3,7 +3,8 @@
 use Prim.Native.Nat.{ℕ, _+_, _-_}
 use mathlib.Core.List.{List}
 use Rattle.whole.specs.Pick.{pick}
-use Rattle.whole.specs.Frac.{whole}
+use Rattle.whole.specs.Frac.{frac}
+use Rattle.units.specs.declared.Unrounded.{Unrounded}
 use Rattle.percentages.specs.Table37.{ordinaryRow}
 use Rattle.corrections.specs.Short29.{shortB}
 use Rattle.corrections.specs.Fullness30.{fullness}
@@ -11,22 +12,23 @@ use Rattle.deduction.specs.Deduction37.{deducted}
 use Rattle.sheer.specs.Sheer as Sheer
 use Rattle.bow.specs.Bow.{forecastleTaken}
 use Rattle.mark.specs.Summer.{summerMark}
+use Rattle.summed.specs.Summed.{effectiveOn}
 use Rattle.deck.specs.declared.Deck.{Deck}
-use Rattle.deck.specs.Deck.{effectiveOn}
 use Rattle.hull.specs.declared.Hull.{Hull}
 
-unfoldable pub addedOn : Hull → Deck → ℕ
-addedOn h d =
-    fullness (h .block) (h .basis .line .0 + pick (h .b) (shortB (h .length .0) (effectiveOn d)) 0) + h .deep .0
-    + Sheer.addition (h .mean .deficiency .0) (h .length .0) (d .s .0)
+-- with E and what sheer adds
+unfoldable pub addedOn : Hull → ℕ → ℕ → ℕ
+addedOn h e lacking = fullness (h .block) (h .basis .line .0 + pick (h .b) (shortB (h .length .0) e) 0) + h .deep .0 + lacking
 
-unfoldable pub takenOn : List ℕ → Hull → Deck → ℕ
-takenOn row h d =
-    deducted (h .b) row (whole (d .forecastle .effective .0)) (h .length .0) (effectiveOn d)
-    + Sheer.deduction (h .mean .excess .0) (h .length .0) (d .s .0) (d .reach)
+-- with the forecastle's effective length, E and what sheer deducts
+unfoldable pub takenOn : List ℕ → Hull → Unrounded → ℕ → ℕ → ℕ
+takenOn row h forecastle e excess = deducted (h .b) row (frac (forecastle .top) (forecastle .bottom)) (h .length .0) e + excess
 
 unfoldable pub bowOn : Hull → Deck → ℕ
 bowOn h d = h .bow .above .0 - (h .bow .below .0 + forecastleTaken (h .length .0) (d .forecastle .part .0) (d .forecastle .height .0))
 
 unfoldable pub summerOn : Hull → Deck → ℕ
-summerOn h d = summerMark (h .basis .floor) (addedOn h d) (takenOn ordinaryRow h d) (bowOn h d)
+summerOn h d =
+    let e = effectiveOn (d .effective) in
+    summerMark (h .basis .floor) (addedOn h e (Sheer.addition (h .mean .deficiency .0) (h .length .0) (d .s .0)))
+    (takenOn ordinaryRow h (d .forecastle .effective) e (Sheer.deduction (h .mean .excess .0) (h .length .0) (d .s .0) (d .reach))) (bowOn h d)

@@ -1,11 +1,10 @@
 // The steps to the summer mark, put together: what is added, what is taken, and the mark, of a hull and a deck.
 ghost use mathlib.Core.Path.{_≡_};
-ghost use Prim.Native.Nat.{_+_, _*_, _≤_, _^_};
-ghost use Rattle.whole.specs.Pick.{pick};
+ghost use Prim.Native.Nat.{_*_, _≤_, _^_};
 ghost use Rattle.percentages.specs.Table37.{entries};
 ghost use Rattle.deduction.specs.Deduction37.{deduction};
+ghost use Rattle.effective.specs.Unrounded.{Fair};
 ghost use Rattle.deck.specs.Deck.{FairDeck};
-ghost use Rattle.sheer.specs.Sheer as Sheer;
 ghost use Rattle.hull.specs.Parts.{FairHull};
 ghost use Rattle.summer.specs.Parts.{addedOn, takenOn, summerOn};
 use corrections::before_sheer;
@@ -15,6 +14,7 @@ use percentages::Row;
 use units::Effective;
 use units::Freeboard;
 use units::Span;
+use units::Unrounded;
 
 // The houses' deduction (37) for an effective length `e`, by a row of percentages.
 fn deduction_by(row: Row, l: Span, e: Effective) -> Freeboard
@@ -29,25 +29,24 @@ fn deduction_by(row: Row, l: Span, e: Effective) -> Freeboard
 }
 
 // What is added: the line, made greater for short B ships (29) and fullness (30), then depth (31), then sheer where it is lacking (38).
-fn added(h: Hull, d: Deck, lacking: Freeboard) -> Freeboard
-    requires { ⌜ FairHull h × (lacking .0 ≡ Sheer.addition (h .mean .deficiency .0) (h .length .0) (d .s .0)) × (lacking .0 ≤ 9000000) ⌝ }
-    ensures { λ r. ⌜ r .0 ≡ addedOn h d ⌝ }
+fn added(h: Hull, e: Effective, lacking: Freeboard) -> Freeboard
+    requires { ⌜ FairHull h × (lacking .0 ≤ 9000000) ⌝ }
+    ensures { λ r. ⌜ r .0 ≡ addedOn h (e .0) (lacking .0) ⌝ }
     ensures { λ r. ⌜ r .0 ≤ 2 ^ 32 ⌝ }
 {
     let line = h.basis.line;
-    let full = before_sheer::made_full(line, h.b, h.length, h.block, deck::effective_length(d));
+    let full = before_sheer::made_full(line, h.b, h.length, h.block, e);
     units::sum(units::sum(full, h.deep), lacking)
 }
 
 // What is taken: the houses' deduction (37) by a row of percentages, and sheer where it is in excess (38).
-fn taken(row: Row, h: Hull, d: Deck, excess: Freeboard) -> Freeboard
-    requires { ⌜ FairHull h × FairDeck (h .length .0) d × (excess .0 ≡ Sheer.deduction (h .mean .excess .0) (h .length .0) (d .s .0) (d .reach)) × (excess .0 ≤ 456250) ⌝ }
-    ensures { λ r. ⌜ r .0 ≡ takenOn (entries row) h d ⌝ }
+fn taken(row: Row, h: Hull, forecastle: Unrounded, e: Effective, excess: Freeboard) -> Freeboard
+    requires { ⌜ FairHull h × Fair forecastle × (e .0 ≤ 1000 * h .length .0) × (excess .0 ≤ 456250) ⌝ }
+    ensures { λ r. ⌜ r .0 ≡ takenOn (entries row) h forecastle (e .0) (excess .0) ⌝ }
 {
     let l = h.length;
-    let forecastle = d.forecastle;
-    let full = deduction_by(row, l, deck::effective_length(d));
-    let granted = deduction::if_granted(h.b, forecastle.effective, l, full);
+    let full = deduction_by(row, l, e);
+    let granted = deduction::if_granted(h.b, forecastle, l, full);
     units::sum(granted, excess)
 }
 
@@ -58,9 +57,10 @@ pub fn summer_on(h: Hull, d: Deck) -> u64
 {
     let l = h.length;
     let forecastle = d.forecastle;
+    let e = summed::effective_length(d.effective);
     let c = sheer_correction::correct(h.mean, l, d.s, d.reach);
-    let gained = added(h, d, c.added);
-    let lost = taken(Row::Ordinary, h, d, c.deducted);
+    let gained = added(h, e, c.added);
+    let lost = taken(Row::Ordinary, h, forecastle.effective, e, c.deducted);
     let bow = bow::freeboard(h.bow, l, forecastle.part, forecastle.height);
     mark::summer(h.basis.floor, gained, lost, bow)
 }

@@ -135,7 +135,7 @@ module _ (x : Ship) (s : Sound x) (few : x .n < 8) (eight : length (x .houses) �
     unfolding deckFor standingOf hullOf pick
     fair-with h =
         rw (ne-eqb k 0 (λ e. omega arith), deck-with (x .length .0) (poopHouse height k) (housesOf x))
-        (fair-deck (x .length .0) (poopHouse height k ∷ housesOf x) (good-list h))
+        (fair-deck (x .length .0) (poopHouse height k ∷ housesOf x) (s .good .length-most) (good-list h))
 
   -- ---- every length
   pub fits-same : (k : ℕ) → 100 * k ≤ x .length .0 → fitsOn (standingOf x height wish) k ≡ fitsAt x height wish k
@@ -144,7 +144,7 @@ module _ (x : Ship) (s : Sound x) (few : x .n < 8) (eight : length (x .houses) �
 
   fair-for : (k : ℕ) → 100 * k ≤ x .length .0 → 100 * k ≤ roomOf x → FairDeck (x .length .0) (deckFor (standingOf x height wish) k)
   unfolding deckFor standingOf pick
-  fair-for zero h r = fair-deck (x .length .0) (housesOf x) (s .good .houses)
+  fair-for zero h r = fair-deck (x .length .0) (housesOf x) (s .good .length-most) (s .good .houses)
   fair-for (suc k) h r = fair-with (suc k) (omega arith) h r
 
   -- so what is worked once is within the bounds
@@ -154,7 +154,7 @@ module _ (x : Ship) (s : Sound x) (few : x .n < 8) (eight : length (x .houses) �
       let p = fair-particulars x s in
       record {
         hull = h;
-        deck = fair-deck (x .length .0) (housesOf x) (s .good .houses);
+        deck = fair-deck (x .length .0) (housesOf x) (s .good .length-most) (s .good .houses);
         floor = p .0;
         depth = p .1;
         displacement = p .2;

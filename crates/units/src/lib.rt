@@ -18,6 +18,12 @@ pub struct Span(pub u64);
 // An effective length, in micrometres: its fractions of a millimetre count.
 pub struct Effective(pub u64);
 
+// An effective length before it is rounded: `top` / `bottom` micrometres.
+pub struct Unrounded {
+    pub top: u64,
+    pub bottom: u64,
+}
+
 // A freeboard, in micrometres.
 pub struct Freeboard(pub u64);
 

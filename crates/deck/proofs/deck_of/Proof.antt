@@ -47,7 +47,7 @@ deck-of-spec =
     let g = s .pre .2 in (
       s .pre .0,
       rw (getD-take (a .n) (a .t2) (k - 1) _ h) at (g .each (k - 1) (omega (arith, long s))),
-      rw (t .loop .inv .1) (fair-deck (a .l .0) (drop k hs) (good-from (a .l .0) hs k g)),
+      rw (t .loop .inv .1) (fair-deck (a .l .0) (drop k hs) (s .pre .0) (good-from (a .l .0) hs k g)),
     ))
     (λ c. search needs)
     (λ c.
@@ -74,4 +74,4 @@ deck-of-spec =
     let hs = take (a .n) (a .t2) in
     let z : t .loop .k ≡ 0 = omega arith in
     let e : t .loop .d ≡ deckOf (a .l .0) hs = t .loop .inv .1 ∙ ap (λ (k : ℕ). deckOf (a .l .0) (drop k hs)) z in
-    (e, rw e (fair-deck (a .l .0) hs (s .pre .2)))))
+    (e, rw e (fair-deck (a .l .0) hs (s .pre .0) (s .pre .2)))))

@@ -1,10 +1,12 @@
 -- Each sum is the definition's, and the new house is the forecastle or leaves the old one.
 use Prim.Native.Nat.{_+_}
 use mathlib.Core.Bool.{Bool}
-use mathlib.Core.Path.{_≡_, sym, _∙_}
+use mathlib.Core.Path.{_≡_, sym, ap, _∙_}
 use borrow.Author.Needs.{needs}
 use Rattle.whole.specs.Pick.{pick}
+use Rattle.units.specs.declared.Unrounded.{Unrounded}
 use Rattle.houses.specs.Forecastle.{isForecastle}
+use Rattle.summed.specs.Summed.{summedWith}
 use Rattle.deck.specs.declared.Deck.{Deck}
 use Rattle.deck.specs.Deck.{deckWith}
 use Rattle.deck.proofs.with_house.Statement.{statement}
@@ -13,12 +15,13 @@ use Rattle.deck.proofs.with_house.Tie as tie
 -- what the calls gave, with either forecastle, is the definition's deck
 laid : (f : tie.After-is-forecastle) (b : Bool) → f .is-forecastle .result ≡ b
     → let r = f .before .before .before in
-    let e = r .before .before .before .before .before in
+    let w = r .before in
+    let e = w .before .before .before in
     let p = e .before in
     let a = p .before .args in
     let deck : Deck = record {
       s = record { 0 = p .part .result .0 + a .d .s .0 };
-      effective = record { 0 = e .effective-of .result .0 + a .d .effective .0 };
+      effective = w .with-one .result;
       reach = r .reach-of .result + a .d .reach;
       forecastle = pick b (record { effective = e .effective-of .result; part = p .part .result; height = a .h .height }) (a .d .forecastle);
     } in
@@ -26,16 +29,18 @@ laid : (f : tie.After-is-forecastle) (b : Bool) → f .is-forecastle .result ≡
 unfolding deckWith
 laid f b t =
     let r = f .before .before .before in
-    let e = r .before .before .before .before .before in
+    let w = r .before in
+    let e = w .before .before .before in
     let p = e .before in
     let a = p .before .args in
     let q : b ≡ isForecastle (a .l .0) (a .h) = sym t ∙ f .is-forecastle .ensures in
+    let own = e .effective-of .ensures .1 .0 in
+    let sums = w .with-one .ensures ∙ ap (λ (u : Unrounded). summedWith (a .h .quarterdeck) (u .top) (a .d .effective)) own in
     λ i. record {
       s = record { 0 = p .part .ensures .0 i + a .d .s .0 };
-      effective = record { 0 = e .effective-of .ensures .0 i + a .d .effective .0 };
+      effective = sums i;
       reach = r .reach-of .ensures .0 i + a .d .reach;
-      forecastle =
-          pick (q i) (record { effective = record { 0 = e .effective-of .ensures .0 i }; part = record { 0 = p .part .ensures .0 i }; height = a .h .height }) (a .d .forecastle);
+      forecastle = pick (q i) (record { effective = own i; part = record { 0 = p .part .ensures .0 i }; height = a .h .height }) (a .d .forecastle);
     }
 
 pub with-house-spec : {M : Type 1} → statement M

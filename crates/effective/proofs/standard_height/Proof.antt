@@ -1,6 +1,10 @@
+use mathlib.Core.Bool.{true, false}
+use mathlib.Core.Path.{sym, subst}
 use borrow.Author.Needs.{needs}
 use Rattle.whole.specs.Pick.{pick}
 use Rattle.houses.specs.Height.{standardHeight}
+use Rattle.effective.specs.Unrounded.{Sized}
+use Rattle.effective.proofs.Unrounded.{standard-sized}
 use Rattle.effective.proofs.standard_height.Statement.{statement}
 use Rattle.effective.proofs.standard_height.Tie as tie
 
@@ -10,6 +14,12 @@ standard-height-spec =
     tie.close
     (tie.spec
     (λ c κs. search needs)
-    (λ c. (rw (c .before .if1 .taken) (c .raised-height .ensures .0), c .raised-height .ensures .1))
+    (λ c.
+    let l = c .before .before .args .l .0 in
+    let e = c .raised-height .ensures in
+    (rw (c .before .if1 .taken) e, subst Sized (sym e) (standard-sized l true)))
     (λ c κs. search needs)
-    (λ c. (rw (c .before .if1 .left) (c .ordinary-height .ensures .0), c .ordinary-height .ensures .1)))
+    (λ c.
+    let l = c .before .before .args .l .0 in
+    let e = c .ordinary-height .ensures in
+    (rw (c .before .if1 .left) e, subst Sized (sym e) (standard-sized l false))))

@@ -13,10 +13,7 @@ added-spec =
     (λ c κs. search needs)
     (λ c κs. search needs)
     (λ c κs. search needs)
-    (λ c κs. search needs)
     (λ c.
     let s = c .before in
     let m = s .before in
-    let e = m .before in
-    let a = e .before .before in
-    (rw (c .sum2 .ensures, s .sum .ensures, m .made-full .ensures .0, e .effective-length .ensures, a .pre .1) refl, omega (arith, c .sum2 .ensures, s .sum .ensures))))
+    (rw (c .sum2 .ensures, s .sum .ensures, m .made-full .ensures .0) refl, omega (arith, c .sum2 .ensures, s .sum .ensures))))

@@ -13,10 +13,7 @@ taken-spec =
     (λ c κs. search needs)
     (λ c κs. search needs)
     (λ c κs. search needs)
-    (λ c κs. search needs)
     (λ c.
     let g = c .before in
     let f = g .before in
-    let e = f .before in
-    let s = e .before .before .before in
-    rw (c .sum .ensures, g .if-granted .ensures .0, f .deduction-by .ensures .0, e .effective-length .ensures, s .pre .2) refl))
+    rw (c .sum .ensures, g .if-granted .ensures .0, f .deduction-by .ensures .0) refl))

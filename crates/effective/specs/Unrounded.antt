@@ -1,0 +1,30 @@
+-- Standard heights and effective lengths as code has them, by numerator and denominator, of numbers that leave room for products. `unrounded-exact` ties them to
+-- 35's fraction: nobody needs to believe this page.
+use Prim.Native.Nat.{ℕ, _*_, _≤_, min}
+use Rattle.whole.specs.Frac.{Frac}
+use Rattle.units.specs.declared.Unrounded.{Unrounded}
+use Rattle.ship.specs.declared.House.{House}
+use Rattle.houses.specs.Height.{standardHeight}
+use Rattle.houses.specs.Effective.{limitedLength}
+use Rattle.effective.specs.declared.Standard.{Standard}
+
+-- a height of 33
+abbrev pub standardOf : Frac → Standard
+standardOf x = record { size = x .top; per = x .bot }
+
+pub record Sized (s : Standard) : Type 0 where
+  pub size-least : 1 ≤ s .size
+  pub size-most : s .size ≤ 115000000
+  pub per-most : s .per ≤ 50000
+
+-- of one house, over the numerator of its standard height
+unfoldable pub topOf : ℕ → House → ℕ
+topOf l h = limitedLength l h * min (h .height .0 * standardHeight l (h .quarterdeck) .bot) (standardHeight l (h .quarterdeck) .top)
+
+abbrev pub unroundedOf : ℕ → House → Unrounded
+unroundedOf l h = record { top = topOf l h; bottom = standardHeight l (h .quarterdeck) .top }
+
+pub record Fair (e : Unrounded) : Type 0 where
+  pub top-most : e .top ≤ 365000000 * 115000000
+  pub bottom-least : 1 ≤ e .bottom
+  pub bottom-most : e .bottom ≤ 115000000

@@ -1,0 +1,15 @@
+use mathlib.Core.Path.{ap₂}
+use Prim.Native.Nat.{_+_}
+use native.Mathlib.Omega.{arith}
+use borrow.Author.Needs.{needs}
+use Rattle.summed.proofs.effective_length.Statement.{statement}
+use Rattle.summed.proofs.effective_length.Tie as tie
+
+pub effective-length-spec : {M : Type 1} → statement M
+effective-length-spec =
+    tie.close
+    (tie.spec
+    (λ c κs. search needs)
+    (λ c κs. search needs)
+    (λ c. let r = c .before .before in omega (arith, r .rounded2 .ensures .1, r .before .rounded .ensures .1))
+    (λ c. let r = c .before .before in ap₂ _+_ (r .before .rounded .ensures .0) (r .rounded2 .ensures .0)))

@@ -13,7 +13,7 @@ use Rattle.houses.specs.Length.{partOf}
 use Rattle.houses.specs.Height.{ordinaryHeight, raisedHeight, standardHeight}
 use Rattle.houses.specs.Effective.{limitedLength, exactEffective}
 use Rattle.houses.proofs.Limits.{part-most, limited-most, over-standard, standard-some}
-use Rattle.effective.specs.Unrounded.{standardOf, Sized, topOf, unroundedOf, Fair}
+use Rattle.effective.specs.Unrounded.{standardOf, greatestSize, Sized, topOf, unroundedOf, Fair}
 
 pub unrounded-exact : (l : ℕ) (h : House) → frac (unroundedOf l h .top) (unroundedOf l h .bottom) ≈f exactEffective l h
 unfolding topOf exactEffective
@@ -31,11 +31,11 @@ standard-sized l quarterdeck =
     (λ q. by-cases P (leb l 75000) _ _ (λ t. omega arith)
     (λ t. by-cases P (ltb l 125000) _ _ (λ u. omega (arith, ltb-true l 125000 u)) (λ u. omega arith)))
 
-pub top-most : (l : ℕ) (h : House) → topOf l h ≤ 1000 * partOf l h * 115000000
+pub top-most : (l : ℕ) (h : House) → topOf l h ≤ 1000 * partOf l h * greatestSize
 unfolding topOf
 top-most l h =
     let s = standardHeight l (h .quarterdeck) in
-    mul-most (limitedLength l h) (min (h .height .0 * s .bot) (s .top)) (1000 * partOf l h) 115000000 (limited-most l h)
+    mul-most (limitedLength l h) (min (h .height .0 * s .bot) (s .top)) (1000 * partOf l h) greatestSize (limited-most l h)
     (omega (arith, min-le-right (h .height .0 * s .bot) (s .top), standard-sized l (h .quarterdeck) .size-most))
 
 pub fair-unrounded : (l : ℕ) (h : House) → l ≤ 365000 → Fair (unroundedOf l h)

@@ -12,9 +12,16 @@ use Rattle.effective.specs.declared.Standard.{Standard}
 abbrev pub standardOf : Frac → Standard
 standardOf x = record { size = x .top; per = x .bot }
 
+-- no numerator of a standard height is above this, and no length of a house above that, in um
+abbrev pub greatestSize : ℕ
+greatestSize = 115000000
+
+abbrev pub greatestLength : ℕ
+greatestLength = 365000000
+
 pub record Sized (s : Standard) : Type 0 where
   pub size-least : 1 ≤ s .size
-  pub size-most : s .size ≤ 115000000
+  pub size-most : s .size ≤ greatestSize
   pub per-most : s .per ≤ 50000
 
 -- of one house, over the numerator of its standard height
@@ -25,6 +32,6 @@ abbrev pub unroundedOf : ℕ → House → Unrounded
 unroundedOf l h = record { top = topOf l h; bottom = standardHeight l (h .quarterdeck) .top }
 
 pub record Fair (e : Unrounded) : Type 0 where
-  pub top-most : e .top ≤ 365000000 * 115000000
+  pub top-most : e .top ≤ greatestLength * greatestSize
   pub bottom-least : 1 ≤ e .bottom
-  pub bottom-most : e .bottom ≤ 115000000
+  pub bottom-most : e .bottom ≤ greatestSize

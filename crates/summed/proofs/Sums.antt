@@ -15,7 +15,7 @@ use Rattle.houses.specs.Height.{standardHeight}
 use Rattle.houses.specs.Effective.{exactEffective, exactEffectiveLength, those, isOrdinary, isRaised, effectiveLength}
 use Rattle.houses.proofs.Counted.{covered-most}
 use Rattle.houses.proofs.Limits.{standard-some}
-use Rattle.effective.specs.Unrounded.{topOf, Fair}
+use Rattle.effective.specs.Unrounded.{greatestSize, topOf, Fair}
 use Rattle.effective.proofs.Unrounded.{unrounded-exact, standard-sized, top-most}
 use Rattle.summed.specs.declared.Summed.{Summed}
 use Rattle.summed.specs.Summed.{summedOf, summedWith, effectiveOn, FairSummed}
@@ -67,13 +67,13 @@ effective-summed l hs =
     (floor-of (total (topOf l) (those isRaised hs)) (standardHeight l true .top) (standard-some l true) (summed-exact l true isRaised (λ h e. e) hs))
 
 -- ---- room
-tops-most : (l : ℕ) (test : House → Bool) (hs : List House) → total (topOf l) (those test hs) ≤ 1000 * coveredLength l hs * 115000000
+tops-most : (l : ℕ) (test : House → Bool) (hs : List House) → total (topOf l) (those test hs) ≤ 1000 * coveredLength l hs * greatestSize
 unfolding those total coveredLength pick
 tops-most l test [] = omega arith
 tops-most l test (h ∷ hs) = go (test h) (tops-most l test hs)
   where
-    go : (b : Bool) → total (topOf l) (those test hs) ≤ 1000 * coveredLength l hs * 115000000
-        → total (topOf l) (pick b (h ∷ those test hs) (those test hs)) ≤ 1000 * coveredLength l (h ∷ hs) * 115000000
+    go : (b : Bool) → total (topOf l) (those test hs) ≤ 1000 * coveredLength l hs * greatestSize
+        → total (topOf l) (pick b (h ∷ those test hs) (those test hs)) ≤ 1000 * coveredLength l (h ∷ hs) * greatestSize
     go true r = omega (arith, top-most l h)
     go false r = omega arith
 

@@ -2,11 +2,10 @@
 use mathlib.Core.Path.{_≡_, sym, ap₂, _∙_}
 use Prim.Native.Nat.{ℕ, suc, _+_, _*_, _-_, _/_, _≤_, _<_, min, max}
 use native.Mathlib.Omega.{arith, min-cases}
-use native.Mathlib.Nat.{mul-comm, mul-le-mul-right, mul-lt-mul-of-pos-right, lt-of-mul-lt-mul-right, min-eq-left, min-eq-right, div-mul-le-self, lt-div-mul-add, div-lt-iff-lt-mul, mul-div-mul-right}
-use Rattle.whole.proofs.Pick.{same-test}
+use native.Mathlib.Nat.{mul-comm, mul-le-mul-right, mul-lt-mul-of-pos-right, lt-of-mul-lt-mul-right, min-eq-left, min-eq-right, div-mul-le-self, lt-div-mul-add, mul-div-mul-right}
 use Rattle.whole.specs.Divide.{ceilDiv}
 use Rattle.whole.proofs.Divide.{ceil-ge, ceil-lt, ceil-most, ceil-cancel, floor-most}
-use Rattle.whole.specs.Frac.{Frac, _≤f_, _≈f_, _<f?_, _+f_, _*f_, _-f_, maxf, minf, whole, frac, ceil, floor}
+use Rattle.whole.specs.Frac.{Frac, _≤f_, _≈f_, _+f_, _*f_, _-f_, maxf, minf, whole, frac, ceil, floor}
 use Rattle.whole.proofs.Frac.{refl≤, trans≤, same, refl≈, sym≈, +-mono≤, *-mono≤, max-least, max-left, max-right, min-left, min-right, min-greatest, sub-mono, sub-add, sub-le}
 use Rattle.whole.specs.Round.{Near, Within, Below}
 
@@ -153,10 +152,3 @@ floor-lesser x y =
     min-cases (x .top * y .bot) (y .top * x .bot) (min (floor x) (floor y) ≡ floor (minf x y))
     (λ p q. rw q (min-eq-left (floor-mono x y (record { le = p })) ∙ sym (mul-div-mul-right (x .top) (x .bot) (y .pos))))
     (λ p q. rw (q, mul-comm (x .bot) (y .bot)) (min-eq-right (floor-mono y x (record { le = p })) ∙ sym (mul-div-mul-right (y .top) (y .bot) (x .pos))))
-
--- a test with a whole limit says the same of a value and of what it is rounded down
-pub floor-test : (x : Frac) (n : ℕ) → (whole (floor x) <f? whole n) ≡ (x <f? whole n)
-floor-test x n =
-    same-test (suc (floor x * 1)) (n * 1) (suc (x .top * 1)) (n * x .bot)
-    (λ h. omega (arith, div-lt-iff-lt-mul {x = x .top} {y = n} (x .pos) .0 (omega arith)))
-    (λ h. omega (arith, div-lt-iff-lt-mul {x = x .top} {y = n} (x .pos) .1 (omega arith)))

@@ -7,7 +7,7 @@ use Rattle.whole.specs.Frac.{frac, _≈f_}
 use Rattle.units.specs.declared.Unrounded.{Unrounded}
 use Rattle.houses.specs.Effective.{limitedLength, exactEffective}
 use Rattle.effective.specs.declared.Standard.{Standard}
-use Rattle.effective.specs.Unrounded.{topOf, unroundedOf, Fair}
+use Rattle.effective.specs.Unrounded.{greatestSize, greatestLength, topOf, unroundedOf, Fair}
 use Rattle.effective.proofs.Unrounded.{unrounded-exact, fair-unrounded}
 use Rattle.effective.proofs.effective_of.Statement.{statement}
 use Rattle.effective.proofs.effective_of.Tie as tie
@@ -26,7 +26,7 @@ effective-of-spec =
     (λ c.
     let z = c .before in
     let s = z .before .before .before in
-    omega (arith, mul-most (s .before .limited-length .result .0) (z .lesser .result) 365000000 115000000 (omega arith) (omega (arith, z .lesser .ensures))))
+    omega (arith, mul-most (s .before .limited-length .result .0) (z .lesser .result) greatestLength greatestSize (omega arith) (omega (arith, z .lesser .ensures))))
     (λ c.
     let z = c .before in
     let s = z .before .before .before in

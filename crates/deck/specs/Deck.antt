@@ -7,7 +7,7 @@ use Rattle.ship.specs.declared.House.{House}
 use Rattle.houses.specs.Length.{partOf, coveredLength}
 use Rattle.houses.specs.Forecastle.{isForecastle, forecastleOf}
 use Rattle.houses.specs.Cover.{reachOf, reach}
-use Rattle.effective.specs.Unrounded.{topOf, unroundedOf, Fair}
+use Rattle.effective.specs.Unrounded.{topOf, unroundedOf, FairLength}
 use Rattle.summed.specs.Summed.{summedOf, summedWith, effectiveOn, FairSummed}
 use Rattle.deck.specs.declared.Deck.{Deck}
 use Rattle.deck.specs.declared.Forecastle.{Forecastle}
@@ -39,6 +39,6 @@ pub record FairDeck (l : ℕ) (d : Deck) : Type 0 where
   pub sums : FairSummed (d .effective)
   pub e : effectiveOn (d .effective) ≤ 1000 * l
   pub reach : d .reach ≤ 2 * l
-  pub forecastle : Fair (d .forecastle .effective)
+  pub forecastle : FairLength (d .forecastle .effective)
   pub part : d .forecastle .part .0 ≤ l
   pub height : d .forecastle .height .0 ≤ 8191

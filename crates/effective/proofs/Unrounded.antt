@@ -13,7 +13,7 @@ use Rattle.houses.specs.Length.{partOf}
 use Rattle.houses.specs.Height.{ordinaryHeight, raisedHeight, standardHeight}
 use Rattle.houses.specs.Effective.{limitedLength, exactEffective}
 use Rattle.houses.proofs.Limits.{part-most, limited-most, over-standard, standard-some}
-use Rattle.effective.specs.Unrounded.{standardOf, greatestSize, Sized, topOf, unroundedOf, Fair}
+use Rattle.effective.specs.Unrounded.{standardOf, greatestSize, Sized, topOf, unroundedOf, FairLength}
 
 pub unrounded-exact : (l : ℕ) (h : House) → frac (unroundedOf l h .top) (unroundedOf l h .bottom) ≈f exactEffective l h
 unfolding topOf exactEffective
@@ -38,7 +38,7 @@ top-most l h =
     mul-most (limitedLength l h) (min (h .height .0 * s .bot) (s .top)) (1000 * partOf l h) greatestSize (limited-most l h)
     (omega (arith, min-le-right (h .height .0 * s .bot) (s .top), standard-sized l (h .quarterdeck) .size-most))
 
-pub fair-unrounded : (l : ℕ) (h : House) → l ≤ 365000 → Fair (unroundedOf l h)
+pub fair-unrounded : (l : ℕ) (h : House) → l ≤ 365000 → FairLength (unroundedOf l h)
 fair-unrounded l h p =
     let s = standard-sized l (h .quarterdeck) in
     record { top-most = omega (arith, top-most l h, part-most l h); bottom-least = s .size-least; bottom-most = s .size-most }

@@ -31,7 +31,7 @@ topOf l h = limitedLength l h * min (h .height .0 * standardHeight l (h .quarter
 abbrev pub unroundedOf : ℕ → House → Unrounded
 unroundedOf l h = record { top = topOf l h; bottom = standardHeight l (h .quarterdeck) .top }
 
-pub record Fair (e : Unrounded) : Type 0 where
+pub record FairLength (e : Unrounded) : Type 0 where
   pub top-most : e .top ≤ greatestLength * greatestSize
   pub bottom-least : 1 ≤ e .bottom
   pub bottom-most : e .bottom ≤ greatestSize

@@ -4,7 +4,7 @@ ghost use Prim.Native.Nat.{_*_, _≤_, _<_};
 ghost use Rattle.whole.specs.Frac.{frac, _≈f_};
 ghost use Rattle.houses.specs.Height as Height;
 ghost use Rattle.houses.specs.Effective.{limitedLength, exactEffective};
-ghost use Rattle.effective.specs.Unrounded.{standardOf, Sized, unroundedOf, Fair};
+ghost use Rattle.effective.specs.Unrounded.{standardOf, Sized, unroundedOf, FairLength};
 use ship::House;
 use units::Effective;
 use units::Span;
@@ -87,7 +87,7 @@ pub fn effective_of(l: Span, h: House) -> Unrounded
     requires { ⌜ (l .0 ≤ 365000) × (h .height .0 ≤ 8191) ⌝ }
     ensures { λ r. ⌜ frac (r .top) (r .bottom) ≈f exactEffective (l .0) h ⌝ }
     ensures { λ r. ⌜ r ≡ unroundedOf (l .0) h ⌝ }
-    ensures { λ r. ⌜ Fair r ⌝ }
+    ensures { λ r. ⌜ FairLength r ⌝ }
 {
     let length = limited_length(l, h);
     let standard = standard_height(l, h.quarterdeck);

@@ -15,7 +15,7 @@ use Rattle.houses.specs.Height.{standardHeight}
 use Rattle.houses.specs.Effective.{exactEffective, exactEffectiveLength, those, isOrdinary, isRaised, effectiveLength}
 use Rattle.houses.proofs.Counted.{covered-most}
 use Rattle.houses.proofs.Limits.{standard-some}
-use Rattle.effective.specs.Unrounded.{greatestSize, topOf, Fair}
+use Rattle.effective.specs.Unrounded.{greatestSize, topOf, FairLength}
 use Rattle.effective.proofs.Unrounded.{unrounded-exact, standard-sized, top-most}
 use Rattle.summed.specs.declared.Summed.{Summed}
 use Rattle.summed.specs.Summed.{summedOf, summedWith, effectiveOn, FairSummed}
@@ -81,7 +81,7 @@ pub fair-summed : (l : ℕ) (hs : List House) → l ≤ 365000 → GoodHouses l 
 unfolding summedOf
 fair-summed l hs p g = record { ordinary = sum isOrdinary false; raised = sum isRaised true }
   where
-    sum : (test : House → Bool) (q : Bool) → Fair (record { top = total (topOf l) (those test hs); bottom = standardHeight l q .top })
+    sum : (test : House → Bool) (q : Bool) → FairLength (record { top = total (topOf l) (those test hs); bottom = standardHeight l q .top })
     sum test q =
         let s = standard-sized l q in
         record {

@@ -9,7 +9,7 @@ use Rattle.ship.specs.declared.House.{House}
 use Rattle.houses.specs.Length.{total}
 use Rattle.houses.specs.Height.{standardHeight}
 use Rattle.houses.specs.Effective.{those, isOrdinary, isRaised}
-use Rattle.effective.specs.Unrounded.{topOf, Fair}
+use Rattle.effective.specs.Unrounded.{topOf, FairLength}
 use Rattle.summed.specs.declared.Summed.{Summed}
 
 unfoldable pub summedOf : ℕ → List House → Summed
@@ -35,5 +35,5 @@ effectiveOn s = s .ordinary .top / s .ordinary .bottom + s .raised .top / s .rai
 
 -- sums that leave room for what is worked with them
 pub record FairSummed (s : Summed) : Type 0 where
-  pub ordinary : Fair (s .ordinary)
-  pub raised : Fair (s .raised)
+  pub ordinary : FairLength (s .ordinary)
+  pub raised : FairLength (s .raised)

@@ -2,7 +2,7 @@
 ghost use mathlib.Core.Path.{_≡_};
 ghost use mathlib.Core.List.{[]};
 ghost use Prim.Native.Nat.{_/_, _≤_};
-ghost use Rattle.effective.specs.Unrounded.{Fair};
+ghost use Rattle.effective.specs.Unrounded.{FairLength};
 ghost use Rattle.summed.specs.Summed.{summedOf, more, summedWith, effectiveOn, FairSummed};
 use units::Effective;
 use units::Span;
@@ -32,9 +32,9 @@ pub fn of_none(l: Span) -> Summed
     }
 }
 
-// A sum with one more effective length over the same number.
+// A sum with one more effective length over the same denominator.
 fn plus(e: Unrounded, s: Unrounded) -> Unrounded
-    requires { ⌜ Fair e × Fair s ⌝ }
+    requires { ⌜ FairLength e × FairLength s ⌝ }
     ensures { λ r. ⌜ r ≡ more (e .top) s ⌝ }
 {
     Unrounded {
@@ -45,7 +45,7 @@ fn plus(e: Unrounded, s: Unrounded) -> Unrounded
 
 // With one more house, by its kind.
 pub fn with_one(quarterdeck: bool, e: Unrounded, s: Summed) -> Summed
-    requires { ⌜ Fair e × FairSummed s ⌝ }
+    requires { ⌜ FairLength e × FairSummed s ⌝ }
     ensures { λ r. ⌜ r ≡ summedWith quarterdeck (e .top) s ⌝ }
 {
     let ordinary = s.ordinary;
@@ -64,7 +64,7 @@ pub fn with_one(quarterdeck: bool, e: Unrounded, s: Summed) -> Summed
 
 // A sum rounded down. Nothing is divided where there is nothing to divide: most ships have no raised quarterdeck.
 fn rounded(s: Unrounded) -> Effective
-    requires { ⌜ Fair s ⌝ }
+    requires { ⌜ FairLength s ⌝ }
     ensures { λ r. ⌜ r .0 ≡ s .top / s .bottom ⌝ }
     ensures { λ r. ⌜ r .0 ≤ s .top ⌝ }
 {

@@ -3,7 +3,7 @@ ghost use mathlib.Core.Path.{_≡_};
 ghost use Prim.Native.Nat.{_*_, _≤_, _^_};
 ghost use Rattle.percentages.specs.Table37.{entries};
 ghost use Rattle.deduction.specs.Deduction37.{deduction};
-ghost use Rattle.effective.specs.Unrounded.{Fair};
+ghost use Rattle.effective.specs.Unrounded.{FairLength};
 ghost use Rattle.deck.specs.Deck.{FairDeck};
 ghost use Rattle.hull.specs.Parts.{FairHull};
 ghost use Rattle.summer.specs.Parts.{addedOn, takenOn, summerOn};
@@ -41,7 +41,7 @@ fn added(h: Hull, e: Effective, lacking: Freeboard) -> Freeboard
 
 // What is taken: the houses' deduction (37) by a row of percentages, and sheer where it is in excess (38).
 fn taken(row: Row, h: Hull, forecastle: Unrounded, e: Effective, excess: Freeboard) -> Freeboard
-    requires { ⌜ FairHull h × Fair forecastle × (e .0 ≤ 1000 * h .length .0) × (excess .0 ≤ 456250) ⌝ }
+    requires { ⌜ FairHull h × FairLength forecastle × (e .0 ≤ 1000 * h .length .0) × (excess .0 ≤ 456250) ⌝ }
     ensures { λ r. ⌜ r .0 ≡ takenOn (entries row) h forecastle (e .0) (excess .0) ⌝ }
 {
     let l = h.length;

@@ -7,7 +7,7 @@ use Rattle.whole.specs.Frac.{frac, _≈f_}
 use Rattle.units.specs.declared.Unrounded.{Unrounded}
 use Rattle.houses.specs.Effective.{limitedLength, exactEffective}
 use Rattle.effective.specs.declared.Standard.{Standard}
-use Rattle.effective.specs.Unrounded.{greatestSize, greatestLength, topOf, unroundedOf, Fair}
+use Rattle.effective.specs.Unrounded.{greatestSize, greatestLength, topOf, unroundedOf, FairLength}
 use Rattle.effective.proofs.Unrounded.{unrounded-exact, fair-unrounded}
 use Rattle.effective.proofs.effective_of.Statement.{statement}
 use Rattle.effective.proofs.effective_of.Tie as tie
@@ -38,4 +38,4 @@ effective-of-spec =
     (ap (λ (t : Standard). limitedLength (a .l .0) (a .h) * min (a .h .height .0 * t .per) (t .size)) (s .standard-height .ensures .0)) in
     let e : _ ≡ unroundedOf (a .l .0) (a .h) = λ i. record { top = k i; bottom = s .standard-height .ensures .0 i .size } in
     let x = exactEffective (a .l .0) (a .h) in
-    (subst (λ (u : Unrounded). frac (u .top) (u .bottom) ≈f x) (sym e) (unrounded-exact (a .l .0) (a .h)), (e, subst Fair (sym e) (fair-unrounded (a .l .0) (a .h) (omega arith))))))
+    (subst (λ (u : Unrounded). frac (u .top) (u .bottom) ≈f x) (sym e) (unrounded-exact (a .l .0) (a .h)), (e, subst FairLength (sym e) (fair-unrounded (a .l .0) (a .h) (omega arith))))))

@@ -2,7 +2,7 @@
 use Prim.Native.Nat.{ℕ, _+_, _≤_}
 use mathlib.Core.Bool.{false}
 use mathlib.Core.List.{List, [], _∷_}
-use mathlib.Core.Path.{_≡_, ap}
+use mathlib.Core.Path.{_≡_}
 use native.Mathlib.Omega.{arith}
 use lib.ListN.{drop, length-drop}
 use lib.Seq.{getD-drop}
@@ -21,8 +21,7 @@ use Rattle.houses.proofs.Foremost.{of-that}
 use Rattle.houses.proofs.Midship.{reach-most}
 use Rattle.effective.specs.Unrounded.{topOf}
 use Rattle.effective.proofs.Unrounded.{fair-unrounded}
-use Rattle.summed.proofs.Sums.{summed-with, effective-summed, fair-summed}
-use Rattle.deck.specs.declared.Deck.{Deck}
+use Rattle.summed.proofs.Sums.{summed-with, effective-summed, summed-over, fair-summed}
 use Rattle.deck.specs.Deck.{asForecastle, deckOf, deckWith, FairDeck}
 
 -- a house set before the others
@@ -42,6 +41,7 @@ unfolding deckOf forecastleOf
 fair-deck l hs p g = record {
   s = covered-most l hs g;
   sums = fair-summed l hs p g;
+  bottoms = summed-over l hs;
   e = rw (effective-summed l hs) (effective-length-most l hs g);
   reach = reach-most l hs g;
   forecastle = fair-unrounded l (houseThat (isForecastle l) hs) p;

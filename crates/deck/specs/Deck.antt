@@ -1,14 +1,17 @@
 -- What the houses of a list give to the steps, gathered; and how one more house before the others changes it. Each amount is the definition of 33 to 35, or of
 -- 38's cover, that the steps name, E by its sums: nobody needs to believe this page.
 use Prim.Native.Nat.{ℕ, _+_, _*_, _≤_}
+use mathlib.Core.Bool.{Bool}
 use mathlib.Core.List.{List}
+use mathlib.Core.Path.{_≡_}
 use Rattle.whole.specs.Pick.{pick}
 use Rattle.ship.specs.declared.House.{House}
 use Rattle.houses.specs.Length.{partOf, coveredLength}
+use Rattle.houses.specs.Height.{standardHeight}
 use Rattle.houses.specs.Forecastle.{isForecastle, forecastleOf}
 use Rattle.houses.specs.Cover.{reachOf, reach}
 use Rattle.effective.specs.Unrounded.{topOf, unroundedOf, FairLength}
-use Rattle.summed.specs.Summed.{summedOf, summedWith, effectiveOn, FairSummed}
+use Rattle.summed.specs.Summed.{summedOf, bottomIn, summedWith, effectiveOn, FairSummed}
 use Rattle.deck.specs.declared.Deck.{Deck}
 use Rattle.deck.specs.declared.Forecastle.{Forecastle}
 
@@ -37,6 +40,7 @@ deckWith l h d = record {
 pub record FairDeck (l : ℕ) (d : Deck) : Type 0 where
   pub s : d .s .0 ≤ l
   pub sums : FairSummed (d .effective)
+  pub bottoms : (quarterdeck : Bool) → bottomIn quarterdeck (d .effective) ≡ standardHeight l quarterdeck .top
   pub e : effectiveOn (d .effective) ≤ 1000 * l
   pub reach : d .reach ≤ 2 * l
   pub forecastle : FairLength (d .forecastle .effective)

@@ -57,7 +57,7 @@ fn bare_deck(l: Span) -> Deck
     ensures { λ r. ⌜ r ≡ deckOf (l .0) [] ⌝ }
 {
     let effective = summed::of_none(l);
-    let nothing = effective.ordinary;
+    let nothing = effective.ordinary; // no length, over a denominator that is not 0
     let forecastle = Forecastle {
         effective: nothing,
         part: Span(0),

@@ -8,7 +8,7 @@ use native.Mathlib.Nat.{div-mul-le-self, lt-div-mul-add, mul-one, one-mul}
 use borrow.Author.Tests.{ltb-true, lt-ltb, le-ltb}
 use lib.Dec.{ltb}
 use lib.ListN.{length, getD}
-use Rattle.whole.specs.Frac.{Frac, _≤f_, _≈f_, _+f_, _*f_, whole, frac, floor}
+use Rattle.whole.specs.Frac.{Frac, _≤f_, _≈f_, _+f_, _*f_, whole, frac}
 use Rattle.whole.specs.Pick.{pick}
 use Rattle.whole.specs.Round.{Below}
 use Rattle.whole.specs.Row.{Rising, height, along}
@@ -45,7 +45,7 @@ pub full-from-122 : (l : ℕ) → 122000 ≤ l → 1070000 ≡ full l
 unfolding pick full exactFull
 full-from-122 l h = simp (le-ltb l 85000 (omega arith), le-ltb l 122000 h) (omega arith)
 
--- ---- the share: an E that is short by s costs at most 180 * 1000 / 100 L millionths of it, at L = 24000, and the rounding 1
+-- ---- the share: an E that is short by s costs s * 180 * 1000 / (100 L) millionths, most at L = 24000, and the rounding 1
 share-below : {row : List ℕ} {s : Frac} → Rising 180 1000 row → (l e : ℕ) (x : Frac) → 24000 ≤ l → Below e x s
     → Below (share row l e) (exactShare row l x *f whole 1000000) (s *f frac 3 40 +f whole 1)
 unfolding share exactShare

@@ -12,10 +12,11 @@ use Rattle.effective.specs.declared.Standard.{Standard}
 abbrev pub standardOf : Frac → Standard
 standardOf x = record { size = x .top; per = x .bot }
 
--- no numerator of a standard height is above this, and no length of a house above that, in um
+-- no numerator of a standard height is above this
 abbrev pub greatestSize : ℕ
 greatestSize = 115000000
 
+-- and no length of a house, in um, above this
 abbrev pub greatestLength : ℕ
 greatestLength = 365000000
 

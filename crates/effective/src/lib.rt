@@ -82,7 +82,7 @@ fn limited_length(l: Span, h: House) -> Effective
     um
 }
 
-// 35: the effective length of a house, over the numerator of its standard height: houses that share the one share the other, and so can be added.
+// 35: the effective length of a house, over the numerator of its standard height. All ordinary houses have the same one, so their numerators can be added.
 pub fn effective_of(l: Span, h: House) -> Unrounded
     requires { ⌜ (l .0 ≤ 365000) × (h .height .0 ≤ 8191) ⌝ }
     ensures { λ r. ⌜ frac (r .top) (r .bottom) ≈f exactEffective (l .0) h ⌝ }

@@ -1,4 +1,4 @@
--- Every figure of the table is what the definitions give: one claim, by computing.
+-- Every figure of the two tables is what the definitions give: a claim for each table, by computing.
 use lib.Dec.{T}
 use Rattle.whole.specs.Pick as Pick
 use Rattle.whole.specs.Divide as Divide

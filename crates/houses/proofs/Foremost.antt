@@ -14,7 +14,7 @@ use Rattle.units.specs.Datum.{stationOf}
 use Rattle.ship.specs.declared.House.{House}
 use Rattle.ship.specs.Vessel.{houseAt, noHouse}
 use Rattle.ship.specs.Good.{GoodHouses}
-use Rattle.houses.specs.Forecastle.{houseThat, isForecastle, forecastleOf}
+use Rattle.houses.specs.Forecastle.{houseThat, isForecastle}
 
 -- what holds of every house of the list, and of an empty one, holds of the one that passes
 pub of-that : (P : House → Type 0) (test : House → Bool) (hs : List House) → P noHouse → ((k : ℕ) → k < length hs → P (houseAt hs k)) → P (houseThat test hs)

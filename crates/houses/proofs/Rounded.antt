@@ -11,7 +11,6 @@ use Rattle.whole.specs.Round.{Below}
 use Rattle.whole.proofs.Round.{by-floor, below-sum}
 use Rattle.ship.specs.declared.House.{House}
 use Rattle.ship.specs.Good.{GoodHouses}
-use Rattle.houses.specs.Length.{coveredLength}
 use Rattle.houses.specs.Effective.{exactEffective, exactEffectiveLength, those, isOrdinary, isRaised, effectiveLength}
 use Rattle.houses.proofs.Counted.{covered-most}
 use Rattle.houses.proofs.Limits.{exact-by-covered}

@@ -1,5 +1,5 @@
 // A house on the freeboard deck: its length (34); whether it is the forecastle; its reach in 38's cover amidships. Its standard height and effective
-// length (33, 35) are worked in `effective`, by the definitions here. `deck` sums them.
+// length (33, 35) are worked in `effective`, by the definitions here; `summed` adds effective lengths, and `deck` gathers all that the houses give.
 ghost use mathlib.Core.Path.{_≡_};
 ghost use Prim.Native.Nat.{_*_, _≤_};
 ghost use Rattle.ship.specs.Good.{GoodHouse};

@@ -2,10 +2,10 @@
 use Prim.Native.Nat.{ℕ, _+_, _*_, _≤_, _<_}
 use mathlib.Core.Bool.{Bool, true, false, not}
 use mathlib.Core.List.{List, [], _∷_}
-use mathlib.Core.Path.{_≡_, refl, sym, ap, ap₂, subst}
+use mathlib.Core.Path.{_≡_, refl, sym, ap₂, subst}
 use native.Mathlib.Omega.{arith}
 use Rattle.whole.specs.Pick.{pick}
-use Rattle.whole.specs.Frac.{Frac, frac, whole, _≈f_, _+f_}
+use Rattle.whole.specs.Frac.{Frac, frac, _≈f_, _+f_}
 use Rattle.whole.proofs.Frac.{bot-of, trans≈, +-same}
 use Rattle.whole.proofs.Round.{floor-of}
 use Rattle.ship.specs.declared.House.{House}
@@ -17,8 +17,7 @@ use Rattle.houses.proofs.Counted.{covered-most}
 use Rattle.houses.proofs.Limits.{standard-some}
 use Rattle.effective.specs.Unrounded.{greatestSize, topOf, FairLength}
 use Rattle.effective.proofs.Unrounded.{unrounded-exact, standard-sized, top-most}
-use Rattle.summed.specs.declared.Summed.{Summed}
-use Rattle.summed.specs.Summed.{summedOf, summedWith, effectiveOn, FairSummed}
+use Rattle.summed.specs.Summed.{summedOf, bottomIn, summedWith, effectiveOn, FairSummed}
 
 -- a house set before the others
 pub summed-with : (l : ℕ) (h : House) (hs : List House) → summedWith (h .quarterdeck) (topOf l h) (summedOf l hs) ≡ summedOf l (h ∷ hs)
@@ -65,6 +64,12 @@ effective-summed l hs =
     (floor-of (total (topOf l) (those isOrdinary hs)) (standardHeight l false .top) (standard-some l false)
     (summed-exact l false isOrdinary (λ h e. not-true (h .quarterdeck) e) hs))
     (floor-of (total (topOf l) (those isRaised hs)) (standardHeight l true .top) (standard-some l true) (summed-exact l true isRaised (λ h e. e) hs))
+
+-- each sum stands over its kind's standard height
+pub summed-over : (l : ℕ) (hs : List House) (quarterdeck : Bool) → bottomIn quarterdeck (summedOf l hs) ≡ standardHeight l quarterdeck .top
+unfolding summedOf pick
+summed-over l hs true = refl
+summed-over l hs false = refl
 
 -- ---- room
 tops-most : (l : ℕ) (test : House → Bool) (hs : List House) → total (topOf l) (those test hs) ≤ 1000 * coveredLength l hs * greatestSize

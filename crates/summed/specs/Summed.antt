@@ -22,6 +22,10 @@ summedOf l hs = record {
 abbrev pub more : ℕ → Unrounded → Unrounded
 more top s = record { top = top + s .top; bottom = s .bottom }
 
+-- the denominator of a kind
+abbrev pub bottomIn : Bool → Summed → ℕ
+bottomIn quarterdeck s = pick quarterdeck (s .raised .bottom) (s .ordinary .bottom)
+
 -- with one more house, of this kind and numerator
 unfoldable pub summedWith : Bool → ℕ → Summed → Summed
 summedWith quarterdeck top s = record {

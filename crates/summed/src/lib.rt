@@ -3,12 +3,12 @@ ghost use mathlib.Core.Path.{_≡_};
 ghost use mathlib.Core.List.{[]};
 ghost use Prim.Native.Nat.{_/_, _≤_};
 ghost use Rattle.effective.specs.Unrounded.{FairLength};
-ghost use Rattle.summed.specs.Summed.{summedOf, more, summedWith, effectiveOn, FairSummed};
+ghost use Rattle.summed.specs.Summed.{summedOf, more, bottomIn, summedWith, effectiveOn, FairSummed};
 use units::Effective;
 use units::Span;
 use units::Unrounded;
 
-// The sum over the ordinary houses, over their standard height's numerator, and the raised quarterdeck's effective length, over its own.
+// The ordinary houses' effective lengths, added, and the raised quarterdeck's: each over the numerator of its standard height.
 pub struct Summed {
     pub ordinary: Unrounded,
     pub raised: Unrounded,
@@ -34,7 +34,7 @@ pub fn of_none(l: Span) -> Summed
 
 // A sum with one more effective length over the same denominator.
 fn plus(e: Unrounded, s: Unrounded) -> Unrounded
-    requires { ⌜ FairLength e × FairLength s ⌝ }
+    requires { ⌜ FairLength e × FairLength s × (e .bottom ≡ s .bottom) ⌝ }
     ensures { λ r. ⌜ r ≡ more (e .top) s ⌝ }
 {
     Unrounded {
@@ -45,7 +45,7 @@ fn plus(e: Unrounded, s: Unrounded) -> Unrounded
 
 // With one more house, by its kind.
 pub fn with_one(quarterdeck: bool, e: Unrounded, s: Summed) -> Summed
-    requires { ⌜ FairLength e × FairSummed s ⌝ }
+    requires { ⌜ FairLength e × FairSummed s × (e .bottom ≡ bottomIn quarterdeck s) ⌝ }
     ensures { λ r. ⌜ r ≡ summedWith quarterdeck (e .top) s ⌝ }
 {
     let ordinary = s.ordinary;

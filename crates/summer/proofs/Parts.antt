@@ -25,7 +25,7 @@ use Rattle.steps.specs.Steps.{typeB, basis, coveredS, effectiveE, forecastleHou
 use Rattle.hull.specs.Parts.{hullOf}
 use Rattle.summer.specs.Parts.{addedOn, takenOn, bowOn, summerOn}
 
--- the sums by kind give E; and 37's test says the same of the forecastle's fraction however it is written
+-- 37's test says the same of the forecastle's fraction however it is written
 taken-parts : (row : List ℕ) (x : Ship)
     → takenOn row (hullOf x) (deckOf (x .length .0) (housesOf x) .forecastle .effective) (effectiveE x) (Sheer.deducted (x .sheer) (x .length .0) (coveredS x) (coverReach x))
     ≡ takenFrom row x
@@ -47,6 +47,7 @@ bow-parts x =
     let e : low + s + t ≡ low + (s + t) = omega arith in
     ap (λ (n : ℕ). higher l (x .moulded .0) cb (x .waterplane) + sheerTaken (sheerAt (x .sheer) 4) lift - n) e
 
+-- the sums by kind give E
 pub summer-parts : (x : Ship) → summerOn (hullOf x) (deckOf (x .length .0) (housesOf x)) ≡ summerOf x
 unfolding summerOn addedOn hullOf deckOf summerOf addedTo coveredS effectiveE coverReach Before.added Sheer.added Sheer.deducted
 summer-parts x = rw (effective-summed (x .length .0) (housesOf x)) (ap₂ (summerMark (basis x .floor) (addedTo x)) (taken-parts ordinaryRow x) (bow-parts x))

@@ -15,10 +15,10 @@ pub const AP: u64 = 1048576;
 // A length or a height, in millimetres.
 pub struct Span(pub u64);
 
-// An effective length, in micrometres: its fractions of a millimetre count.
+// An effective length, in whole micrometres.
 pub struct Effective(pub u64);
 
-// An effective length before it is rounded: `top` / `bottom` micrometres.
+// An effective length before it is rounded, a fraction: `top` / `bottom` micrometres.
 pub struct Unrounded {
     pub top: u64,
     pub bottom: u64,

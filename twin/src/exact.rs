@@ -8,9 +8,11 @@ use crate::marks;
 use crate::record::{House, Kind, Ship};
 use crate::table28;
 
-/// The exact freeboards, mm.
+/// The exact freeboards, mm, and E.
 #[derive(Clone, Debug)]
 pub struct Exact {
+    /// E, m: the sum of effective lengths.
+    pub effective: Fraction,
     /// After regulations 28 to 38.
     pub corrected: Fraction,
     /// From the bow height of regulation 39.
@@ -122,7 +124,7 @@ pub fn exact(ship: &Ship) -> Exact {
 
     // 40
     let summer = corrected.clone().max(bow.clone()).max(whole(50));
-    Exact { corrected, bow, summer }
+    Exact { effective: e, corrected, bow, summer }
 }
 
 /// 34: the part between the perpendiculars, m.

@@ -107,7 +107,7 @@ pub fn marks(ship: &Ship) -> Result<Marks, Refusal> {
 pub fn steps(ship: &Ship) -> Steps {
     let length = ship.length;
     let covered = enclosed(ship).map(|(_, house)| length_within(house, length)).sum();
-    let effective = enclosed(ship).map(|(_, house)| effective_length(house, length)).sum();
+    let effective = effective_sum(ship, length);
     let forecastle = enclosed(ship).find(|(_, h)| h.fore >= ship.length).map(|(i, _)| i);
     let table = tabular(ship.kind, length);
     let short_b = short_b_addition(ship.kind, length, effective);
@@ -164,19 +164,26 @@ pub fn standard_height(quarterdeck: bool, length: i64) -> (i64, i64) {
     }
 }
 
-/// Regulation 35: effective length, um, down.
-fn effective_length(house: &House, length: i64) -> i64 {
+/// Regulation 35: effective length of a house, um, as a fraction over its standard height.
+fn effective_length(house: &House, length: i64) -> (i64, i64) {
     let mut whole = 1000 * length_within(house, length);
     if house.quarterdeck {
         whole = whole.min(600 * length); // 35(4): 0.6 L
     }
     let (standard, parts) = standard_height(house.quarterdeck, length);
     let height = house.height as i64 * parts;
-    if height < standard {
-        down(whole * height, standard)
-    } else {
-        whole
-    }
+    (whole * height.min(standard), standard)
+}
+
+/// E: ordinary houses are added first and rounded down once, a raised quarterdeck by itself.
+fn effective_sum(ship: &Ship, length: i64) -> i64 {
+    let part = |quarterdeck: bool| {
+        let alike = enclosed(ship).filter(|(_, house)| house.quarterdeck == quarterdeck);
+        let sum = alike.map(|(_, house)| effective_length(house, length).0).sum();
+        // They share one standard height.
+        down(sum, standard_height(quarterdeck, length).0)
+    };
+    part(false) + part(true)
 }
 
 /// Regulation 28: row value, linear between rows; exact.
@@ -247,9 +254,11 @@ fn deduction_share(length: i64, effective: i64) -> i64 {
 
 /// Regulation 37: what the houses take off, down.
 fn houses_deduction(ship: &Ship, length: i64, effective: i64, forecastle: Option<usize>) -> i64 {
-    // 37(3). 0.07 L is a whole number of um, so rounding down hides no length below it.
-    let long_enough = forecastle
-        .is_some_and(|place| effective_length(&ship.houses[place], length) >= 70 * length);
+    // 37(3), on the fraction itself.
+    let long_enough = forecastle.is_some_and(|place| {
+        let (um, standard) = effective_length(&ship.houses[place], length);
+        um >= 70 * length * standard
+    });
     if ship.kind == Kind::A || long_enough {
         down(full_deduction(length) * deduction_share(length, effective), 1_000_000)
     } else {

@@ -1,11 +1,11 @@
-//! The figures k1 to k12, and the figures that go with the readings of open points.
+//! The figures k1 to k12, E of three houses, and the figures that go with the readings of open points.
 
 mod common;
 
 use common::{house, k1, k2, packed, ship, with};
 use twin::marks::{self, marks, steps};
 use twin::question::{shortest_poop, summer_with_poop};
-use twin::record::{Kind, RawShip};
+use twin::record::{House, Kind, RawShip};
 use twin::refusal::Refusal;
 use twin::table28;
 
@@ -67,10 +67,15 @@ fn k9_standard_heights() {
     assert_eq!(ends.map(|l| height(true, l)), [900, 900, 1_200, 1_800, 1_800]);
 }
 
+/// k10 is E of a list of one house; three are added first and rounded once.
 #[test]
-fn k10_effective_length() {
-    let low = with(RawShip { length: 100_000, ..k1() }, &[house(0, 10_000, 1_000)]);
-    assert_eq!(steps(&ship(&low)).effective, 4_878_048);
+fn k10_effective_lengths() {
+    let effective = |houses: &[House]| {
+        steps(&ship(&with(RawShip { length: 100_000, ..k1() }, houses))).effective
+    };
+    assert_eq!(effective(&[house(0, 10_000, 1_000)]), 4_878_048);
+    let three = [(0, 10_001), (20_000, 30_002), (95_000, 100_000)];
+    assert_eq!(effective(&three.map(|(aft, fore)| house(aft, fore, 1_000))), 12_196_585);
 }
 
 #[test]

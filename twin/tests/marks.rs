@@ -3,10 +3,11 @@
 mod common;
 
 use common::{house, k1, k2, ship, with};
-use twin::exact::bound_holds;
+use twin::big::{whole, Fraction};
+use twin::exact::{bound_holds, exact};
 use twin::marks::{marks, steps, Marks};
 use twin::random::Random;
-use twin::record::{House, RawShip};
+use twin::record::{House, Houses, RawShip, Ship};
 use twin::refusal::Refusal;
 
 /// S is the number of whole mm of L that some enclosed house covers.
@@ -77,6 +78,9 @@ fn seven_hundredths() {
     assert_eq!(fore(83_700, 1_949).deduction, 0);
     assert_eq!(fore(83_700, 1_949).bow, 4_029_337 - 2_000_000 - 1_949_000);
     assert_eq!(fore(83_701, 1_949).bow, 4_029_337 - 2_000_000);
+    // At half the height 12600 mm have just 6300.
+    assert!(fore(77_400, 975).deduction > 0);
+    assert_eq!(fore(77_401, 975).deduction, 0);
     // A type A ship needs no forecastle.
     let poop = with(RawShip { kind: 0, ..k1() }, &[house(0, 10_000, 2_000)]);
     assert_eq!(steps(&ship(&poop)).deduction, 69_095);
@@ -90,6 +94,52 @@ fn long_quarterdeck() {
     assert_eq!((of(deck).covered, of(deck).effective), (80_000, 54_000_000));
     let low = House { height: 690, ..deck };
     assert_eq!(of(low).effective, 27_000_000); // standard height at 90 m: 1380 mm
+}
+
+/// The ordinary houses are rounded down once over their sum, a raised quarterdeck by itself.
+#[test]
+fn effective_lengths_are_added_first() {
+    let effective = |houses: &[House]| {
+        steps(&ship(&with(RawShip { length: 100_000, ..k1() }, houses))).effective
+    };
+    let deck = |fore| House { quarterdeck: true, ..house(0, fore, 1_000) };
+    let low = |aft, fore| house(aft, fore, 1_000);
+    // Standard heights 2050 and 1500: 41 mm are 20000 um, 3 mm of quarterdeck 2000 um.
+    assert_eq!(effective(&[low(0, 40), low(100, 101)]), 20_000);
+    assert_eq!(effective(&[low(0, 40), low(100, 100 + 40)]), 39_024); // 19512.2 twice
+    assert_eq!(effective(&[low(0, 2), low(100, 102)]), 1_951); // 975.6 twice
+    assert_eq!(effective(&[deck(2), low(100, 102)]), 1_333 + 975); // 1333.3 and 975.6
+    assert_eq!(effective(&[deck(1), low(100, 102)]), 666 + 975); // 666.7 and 975.6
+    assert_eq!(effective(&[deck(1), low(100, 102), low(200, 202)]), 666 + 1_951);
+    // One of standard height has no part of a um, and an open one is not added.
+    assert_eq!(effective(&[low(0, 2), house(100, 102, 2_050), low(200, 202)]), 3_951);
+    let open = House { enclosed: false, ..low(100, 102) };
+    assert_eq!(effective(&[low(0, 2), open, low(200, 202)]), 1_951);
+    // Quarterdeck 6667333.3, the others 7318048.8.
+    assert_eq!(effective(&[deck(10_001), low(20_000, 30_002), low(95_000, 100_000)]), 13_985_381);
+}
+
+/// E is the exact sum of the ordinary houses, down, and the exact length of the quarterdeck, down.
+#[test]
+fn effective_length_is_near_the_exact_one() {
+    let short =
+        |ship: &Ship| exact(ship).effective * whole(1_000_000) - whole(steps(ship).effective);
+    let mut random = Random::new(35);
+    let mut by_one_or_more = 0;
+    for i in 0..900 {
+        let ship = ship(&random.ship(i % 9));
+        let (decks, others): (Vec<House>, Vec<House>) =
+            ship.houses.iter().partition(|house| house.quarterdeck);
+        let parts = [decks, others].map(|part| Ship { houses: Houses::of(&part), ..ship.clone() });
+        let sum: i64 = parts.iter().map(|part| steps(part).effective).sum();
+        assert_eq!(steps(&ship).effective, sum, "{ship:?}");
+        let less_than_one = |um: Fraction| um >= whole(0) && um < whole(1);
+        assert!(parts.iter().all(|part| less_than_one(short(part))), "{ship:?}");
+        let um = short(&ship);
+        assert!(um >= whole(0) && um < whole(2), "{ship:?}");
+        by_one_or_more += i32::from(um >= whole(1));
+    }
+    assert!(by_one_or_more > 0);
 }
 
 /// Two houses that touch amidships both count; two that touch elsewhere do not join.

@@ -7,6 +7,7 @@ use twin::random::Random;
 use twin::record::{self, RawShip, Ship, MAX_HOUSES};
 
 use crate::border;
+use crate::fine;
 use crate::flat::{self, SHIP};
 use crate::frame::{MEMORY, ROOM};
 
@@ -14,6 +15,7 @@ use crate::frame::{MEMORY, ROOM};
 #[derive(Clone, Copy)]
 pub enum Kind {
     Valid,
+    WholeMm,
     Border,
     Damaged,
     Noise,
@@ -23,6 +25,7 @@ impl fmt::Display for Kind {
     fn fmt(&self, f: &mut fmt::Formatter) -> fmt::Result {
         f.write_str(match self {
             Kind::Valid => "valid",
+            Kind::WholeMm => "at a whole mm",
             Kind::Border => "at a border",
             Kind::Damaged => "damaged",
             Kind::Noise => "noise",
@@ -59,13 +62,14 @@ impl Input {
             memory: filled(pattern.rotate_left(4)),
         };
         match random.between(1, 20) {
-            1..=8 => input.pack(&raw),
+            1..=6 => input.pack(&raw),
+            7 | 8 => input.put_whole_mm(random, n),
             9..=13 => input.put_border(random, raw.clone()),
             14..=18 => input.put_damaged(random, &raw),
             _ => input.put_noise(random),
         }
         input.ship = stated(random, raw);
-        if random.once_in(4) {
+        if input.question.is_none() && random.once_in(4) {
             input.question = Some(asked(random, input.record()));
         }
         input
@@ -79,6 +83,13 @@ impl Input {
     fn pack(&mut self, raw: &RawShip) {
         self.record_length = record::record_bytes(raw.n.min(MAX_HOUSES as u64) as usize);
         record::pack(&mut self.record[..self.record_length], raw);
+    }
+
+    fn put_whole_mm(&mut self, random: &mut Random, n: usize) {
+        let (raw, question) = fine::ship(random, n);
+        self.kind = Kind::WholeMm;
+        self.question = question;
+        self.pack(&raw);
     }
 
     fn put_border(&mut self, random: &mut Random, mut raw: RawShip) {

@@ -4,6 +4,7 @@
 //! The first answer that differs from the twin's ends the run.
 
 mod border;
+mod fine;
 mod flat;
 mod frame;
 mod input;

@@ -12,7 +12,7 @@ const REFUSALS: usize = 17;
 pub struct Tally {
     pub inputs: u64,
     /// In the order of `Kind`.
-    kinds: [u64; 4],
+    kinds: [u64; 5],
     /// Calls made and accepted, in the order of `CALLS`.
     calls: [(u64, u64); CALLS.len()],
     /// By number, from 1.
@@ -48,7 +48,7 @@ impl Tally {
 
 impl fmt::Display for Tally {
     fn fmt(&self, f: &mut fmt::Formatter) -> fmt::Result {
-        let kinds = [Kind::Valid, Kind::Border, Kind::Damaged, Kind::Noise]
+        let kinds = [Kind::Valid, Kind::WholeMm, Kind::Border, Kind::Damaged, Kind::Noise]
             .map(|kind| format!("{} {kind}", self.kinds[kind as usize]));
         let calls = CALLS.iter().zip(self.calls);
         let calls: Vec<_> = calls

@@ -3,7 +3,7 @@
 
 use crate::bytes::{over, packed, resized, COUNT, KIND, SPARE, VERSION};
 use crate::ships::{decked, extremes, house, k1, k2, open, plain, quarterdeck, with, KINDS};
-use crate::Sample;
+use crate::{slips, Sample};
 use twin::marks;
 use twin::question::{shortest_poop, summer_with_poop};
 use twin::record::{self, House, RawShip, Ship, MAX_HOUSES};
@@ -66,6 +66,7 @@ pub fn samples() -> Vec<Sample> {
     figures(&mut all);
     whole_length(&mut all);
     first_house(&mut all);
+    sums(&mut all);
     numbers_asked(&mut all);
     no_room(&mut all);
     unfit_at_zero(&mut all);
@@ -166,6 +167,19 @@ fn first_house(all: &mut Questions) {
     // A low poop is worth less, a high one no more.
     all.ship("low-poop", Longer, 400, 1_000, &k2());
     all.ship("height-8191", Poop(31), 8_191, 1_000, &k2());
+}
+
+/// The poop is added to other low houses before E is rounded: one um of E meets the wish.
+fn sums(all: &mut Questions) {
+    let fore = house(80_000, 90_000, 1_000);
+    let of = |houses: &[House]| with(RawShip { depth: 6_020, ..k1() }, houses);
+    all.ship("low-poop-and-forecastle", Poop(17), 1_000, 1_100, &of(&[fore]));
+    // One longer does not fit.
+    let next = open(house(1_700, 3_000, 1_000));
+    all.ship("low-poop-up-to-the-next-house", Poop(17), 1_000, 1_100, &of(&[next, fore]));
+    let short = RawShip { depth: 2_703, ..plain(1, 25_000) };
+    let fore = house(20_000, 25_000, 1_500);
+    all.ship("low-poop-at-25-m", Poop(60), 1_000, 227, &with(short, &[fore]));
 }
 
 /// Refusal 14 from both sides.
@@ -286,9 +300,11 @@ enum Slip {
     Quarterdeck,
     /// Eight houses, or a house at the stern, do for k = 0.
     ZeroNeedsNoRoom,
+    /// The poop's effective length is rounded by itself and added to E.
+    PoopApart,
 }
 
-const SLIPS: [Slip; 11] = [
+const SLIPS: [Slip; 12] = [
     Slip::StopsAtRise,
     Slip::Halves,
     Slip::SkipsZero,
@@ -300,6 +316,7 @@ const SLIPS: [Slip; 11] = [
     Slip::TakesRefused,
     Slip::Quarterdeck,
     Slip::ZeroNeedsNoRoom,
+    Slip::PoopApart,
 ];
 
 /// Refusals 12, 13, 15, 16 and the search, with a slip.
@@ -314,6 +331,10 @@ fn search_with(slip: Slip, ship: &Ship, height: u64, wish: u64) -> Result<i64, R
         let touches = k > 0 && ship.houses.first().is_some_and(|first| first.aft == 100 * k);
         if slip == Slip::NoTouching && touches {
             return None;
+        }
+        if slip == Slip::PoopApart && k > 0 {
+            let apart = slips::marks(&longer, Some(slips::Slip::EffectiveFirst));
+            return apart.ok().map(|marks| marks.summer);
         }
         let refused = marks::marks(&longer).is_err() && slip != Slip::TakesRefused;
         (!refused).then(|| marks::steps(&longer).summer)

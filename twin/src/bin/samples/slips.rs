@@ -4,7 +4,7 @@
 //! i64 when worked rightly need not fit with a slip.
 
 use twin::marks::{standard_height, tabular, Marks};
-use twin::record::{House, Kind, Ship};
+use twin::record::{House, Kind, Ship, MAX_HOUSES};
 use twin::refusal::Refusal;
 
 macro_rules! slips {
@@ -30,9 +30,9 @@ slips! {
     HighMore 35 "high house counts more than its length",
     DeckUnlimited 35 "quarterdeck not limited to 0.6 L",
     DeckLimitedLast 35 "quarterdeck limited to 0.6 L after the ratio of heights",
-    EffectiveUp 35 "effective length up",
-    EffectiveMm 35 "effective length in whole mm",
-    EffectiveOnce 35 "effective lengths rounded after the sum",
+    EffectiveUp 35 "sum of ordinary houses up",
+    EffectiveMm 35 "sum of ordinary houses, and quarterdeck, in whole mm",
+    EffectiveEach 35 "each house down by itself",
     ForecastleAtFp 35 "no forecastle if the fore end is beyond L",
     ForecastleLast 35 "last house is the forecastle wherever it ends",
     OtherTable 28 "table of the other type",
@@ -132,6 +132,12 @@ slips! {
     ThirteenAt 13 "at the draught",
     ThirteenNever 13 "never",
     ThirteenExact 13 "on the allowance before it is rounded",
+    // A slip's place is its seed: new ones stand here, so that the others keep their random ships.
+    DeckUp 35 "quarterdeck up",
+    EffectiveTogether 35 "ordinary houses and quarterdeck rounded together",
+    EffectiveFirst 35 "first house down by itself though no quarterdeck",
+    HouseAsDeck 35 "ordinary house added with the standard height of the quarterdeck",
+    LimitEvery 35 "every house limited to 0.6 L",
 }
 
 fn down(number: i128, divisor: i128) -> i128 {
@@ -140,6 +146,14 @@ fn down(number: i128, divisor: i128) -> i128 {
 
 fn up(number: i128, divisor: i128) -> i128 {
     -down(-number, divisor)
+}
+
+/// Sum of fractions. Their divisors are but two: one that is in the sum already is not put in again.
+fn added((a, b): (i128, i128), (c, d): (i128, i128)) -> (i128, i128) {
+    match b % d {
+        0 => (a + c * (b / d), b),
+        _ => (a * d + c * b, b * d),
+    }
 }
 
 /// The marks, with a slip or none.
@@ -291,45 +305,54 @@ impl Working<'_> {
     }
 
     /// 35: effective length as a fraction of um.
-    fn effective_exact(&self, house: &House) -> (i128, i128) {
-        let whole = 1000 * self.within(house);
-        let limited = |um: i128, parts: i128| match house.quarterdeck {
-            true if !self.has(Slip::DeckUnlimited) => um.min(600 * self.l * parts),
-            _ => um,
-        };
-        let (standard, parts) = self.standard(house.quarterdeck);
-        let height = i128::from(house.height) * parts;
-        let low = height < standard && !self.has(Slip::LowWhole);
-        match low || self.has(Slip::HighMore) && height > standard {
-            false => (limited(whole, 1), 1),
-            true if self.has(Slip::DeckLimitedLast) => {
-                (limited(whole * height, standard), standard)
-            }
-            true => (limited(whole, 1) * height, standard),
-        }
+    fn effective(&self, house: &House) -> (i128, i128) {
+        self.effective_by(house, house.quarterdeck)
     }
 
-    fn effective(&self, house: &House) -> i128 {
-        let (um, parts) = self.effective_exact(house);
-        match self.slip {
-            Some(Slip::EffectiveMm) => 1000 * down(um, 1000 * parts),
-            _ => self.down(um, parts, Slip::EffectiveUp),
-        }
+    /// The same with the standard height of a quarterdeck, or of another house.
+    fn effective_by(&self, house: &House, quarterdeck: bool) -> (i128, i128) {
+        let (whole, most) = (1000 * self.within(house), 600 * self.l);
+        let (standard, parts) = self.standard(quarterdeck);
+        let height = match i128::from(house.height) * parts {
+            height if self.has(Slip::HighMore) => height,
+            _ if self.has(Slip::LowWhole) => standard,
+            height => height.min(standard),
+        };
+        let limited = match self.slip {
+            Some(Slip::DeckUnlimited) => false,
+            Some(Slip::LimitEvery) => true,
+            _ => house.quarterdeck,
+        };
+        let um = match limited {
+            false => whole * height,
+            true if self.has(Slip::DeckLimitedLast) => (whole * height).min(most * standard),
+            true => whole.min(most) * height,
+        };
+        (um, standard)
     }
 
     /// E, um.
     fn effective_sum(&self) -> i128 {
-        if self.has(Slip::EffectiveOnce) {
-            let sum = |(a, b): (i128, i128), (c, d)| match b % d {
-                0 => (a + c * (b / d), b),
-                _ => (a * d + c * b, b * d),
+        let decked = self.enclosed().any(|house| house.quarterdeck);
+        // Houses of one sort are added, then rounded.
+        let mut sorts = [(0, 1); MAX_HOUSES];
+        for (i, house) in self.enclosed().enumerate() {
+            let sort = match self.slip {
+                Some(Slip::EffectiveEach) => i,
+                Some(Slip::EffectiveTogether) => 0,
+                Some(Slip::EffectiveFirst) => usize::from(i > 0),
+                _ => usize::from(!house.quarterdeck),
             };
-            let exact = self.enclosed().map(|house| self.effective_exact(house));
-            let (um, parts) = exact.fold((0, 1), sum);
-            down(um, parts)
-        } else {
-            self.enclosed().map(|house| self.effective(house)).sum()
+            let as_deck = house.quarterdeck || decked && self.has(Slip::HouseAsDeck);
+            sorts[sort] = added(sorts[sort], self.effective_by(house, as_deck));
         }
+        let rounded = |(sort, (um, parts)): (usize, (i128, i128))| match self.slip {
+            Some(Slip::EffectiveMm) => 1000 * down(um, 1000 * parts),
+            Some(Slip::DeckUp) if sort == 0 => up(um, parts),
+            Some(Slip::EffectiveUp) if sort == 1 => up(um, parts),
+            _ => down(um, parts),
+        };
+        sorts.into_iter().enumerate().map(rounded).sum()
     }
 
     fn corrected(&self) -> i128 {
@@ -417,13 +440,15 @@ impl Working<'_> {
     fn deduction(&self, effective: i128) -> i128 {
         let l = self.l;
         let long_enough = self.forecastle().is_some_and(|house| {
-            let length = self.effective(house);
+            let (um, parts) = self.effective(house);
             match self.slip {
                 Some(Slip::DeductPlain) => 1000 * self.within(house) >= 70 * l,
-                Some(Slip::DeductMmNearest) => down(length + 500, 1000) * 1000 >= 70 * l,
-                Some(Slip::DeductMmDown) => down(length, 1000) * 1000 >= 70 * l,
-                Some(Slip::DeductStrict) => length > 70 * l,
-                _ => length >= 70 * l,
+                Some(Slip::DeductMmNearest) => {
+                    down(um + 500 * parts, 1000 * parts) * 1000 >= 70 * l
+                }
+                Some(Slip::DeductMmDown) => down(um, 1000 * parts) * 1000 >= 70 * l,
+                Some(Slip::DeductStrict) => um > 70 * l * parts,
+                _ => um >= 70 * l * parts,
             }
         });
         let gets = match self.slip {
@@ -609,7 +634,10 @@ impl Working<'_> {
         let (l, length) = (self.l, 1000 * self.within(house));
         let long_enough = match self.slip {
             Some(Slip::BowShortForecastle) => true,
-            Some(Slip::BowEffective) => self.effective(house) >= 70 * l,
+            Some(Slip::BowEffective) => {
+                let (um, parts) = self.effective(house);
+                um >= 70 * l * parts
+            }
             Some(Slip::BowStrict) => length > 70 * l,
             _ => length >= 70 * l,
         };

@@ -63,7 +63,14 @@ fn search(random: &mut Random, slip: Slip) -> RawShip {
     loop {
         let n = random.between(0, 8) as usize;
         let raw = match slip {
-            Slip::EffectiveUp | Slip::EffectiveOnce | Slip::ShortDown => short_and_low(random),
+            Slip::EffectiveUp | Slip::EffectiveEach | Slip::EffectiveFirst | Slip::ShortDown => {
+                short_and_low(random)
+            }
+            Slip::EffectiveTogether | Slip::DeckUp => {
+                let mut raw = short_and_low(random);
+                raw.houses[0].quarterdeck = true;
+                raw
+            }
             _ => random.ship(n),
         };
         if raw.check().is_ok_and(|ship| good(&ship)) {

@@ -99,6 +99,41 @@ pub fn heights(all: &mut Cases) {
     all.marks("a-height-1000-at-100-m", &with(plain(0, 100_000), &[house(0, 10_000, 1_000)]));
 }
 
+/// Regulation 35: ordinary houses are rounded down once, after the sum, and a quarterdeck by itself.
+pub fn sums(all: &mut Cases) {
+    let mut put = |name: &str, kind: u64, length: u64, first: House, slip: Slip| {
+        let fp = length as i64;
+        let houses = [first, house(20_000, 30_002, 1_000), house(fp - 5_000, fp, 1_000)];
+        let raw = telling(slip, deeper(with(plain(kind, length), &houses)));
+        all.marks(&format!("{}-{name}-at-{length}", KINDS[kind as usize].1), &raw);
+    };
+    // At 100 m 4878536.6, 4879024.4 and 2439024.4 um, in all 12196585.4. No line there shows one um
+    // of E; at the other lengths it does.
+    for (kind, length, slip) in [
+        (0, 100_000, Slip::LowWhole),
+        (0, 100_444, Slip::EffectiveEach),
+        (1, 97_161, Slip::EffectiveEach),
+        (0, 100_030, Slip::EffectiveUp),
+        (1, 95_525, Slip::EffectiveUp),
+        (0, 100_797, Slip::EffectiveFirst),
+        (1, 90_181, Slip::EffectiveFirst),
+    ] {
+        put("three-low-houses", kind, length, house(0, 10_001, 1_000), slip);
+    }
+    // At 100 m the quarterdeck has 6667333.3 um, the others 7318048.8: together 13985382.1.
+    for (kind, length, slip) in [
+        (0, 100_000, Slip::LowWhole),
+        (0, 100_254, Slip::EffectiveTogether),
+        (0, 100_400, Slip::EffectiveTogether),
+        (1, 98_045, Slip::EffectiveTogether),
+        (1, 95_374, Slip::DeckUp),
+        (0, 100_056, Slip::EffectiveEach),
+        (1, 91_470, Slip::EffectiveEach),
+    ] {
+        put("quarterdeck-and-two-low-houses", kind, length, quarterdeck(0, 10_001, 1_000), slip);
+    }
+}
+
 /// Only an enclosed house counts.
 pub fn not_enclosed(all: &mut Cases) {
     for (kind, letter) in KINDS {

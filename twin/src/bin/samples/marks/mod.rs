@@ -117,6 +117,7 @@ pub fn cases() -> Cases {
     all.group("cover", houses::cover);
     all.group("quarterdecks", houses::quarterdecks);
     all.group("heights", houses::heights);
+    all.group("sums", houses::sums);
     all.group("open", houses::not_enclosed);
     all.group("ends", houses::beyond_the_ends);
     all.group("forecastles", houses::forecastles);

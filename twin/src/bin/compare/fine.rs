@@ -1,0 +1,77 @@
+//! Ships with low houses whose freeboard stands at a whole mm or one um above it: there one um of a
+//! step may show in the mark. Other ships hardly ever show a um of E.
+
+use twin::marks::{self, standard_height};
+use twin::random::Random;
+use twin::record::{House, RawShip, Ship, MAX_HOUSES};
+
+/// Depths and fullnesses tried on one ship; one in 500 will do.
+const TRIES: usize = 2_000;
+
+/// The ship with `n` houses, or with a poop besides: then also the height and the mark to ask for.
+pub fn ship(random: &mut Random, n: usize) -> (RawShip, Option<(u64, u64)>) {
+    // E is worth most to a short ship.
+    let longest = random.pick(&[30_000, 365_000]);
+    loop {
+        let mut raw = random.ship(n);
+        if raw.length > longest {
+            continue;
+        }
+        put_low_houses(random, &mut raw);
+        let Ok(ship) = raw.check() else { continue };
+        let poop = poop(random, &ship);
+        if let Some(fine) = tuned(random, with(&ship, poop)) {
+            (raw.depth, raw.cb) = (fine.depth as u64, fine.cb as u64);
+            let mark = marks::steps(&fine).summer as u64;
+            return (raw, poop.map(|poop| (poop.height, mark)));
+        }
+    }
+}
+
+/// Makes every house lower than standard, and the first one a raised quarterdeck at times.
+fn put_low_houses(random: &mut Random, raw: &mut RawShip) {
+    let length = raw.length as i64;
+    let houses = &mut raw.houses[..raw.n as usize];
+    if let Some(first) = houses.first_mut() {
+        if first.fore < length && random.once_in(3) {
+            *first =
+                House { enclosed: true, quarterdeck: true, aft: -random.between(0, 99), ..*first };
+        }
+    }
+    for house in houses {
+        house.height = low(random, house.quarterdeck, length);
+    }
+}
+
+/// A height from half the standard one up to just below it.
+fn low(random: &mut Random, quarterdeck: bool, length: i64) -> u64 {
+    let (standard, parts) = standard_height(quarterdeck, length);
+    random.between(standard / parts / 2, standard / parts - 1) as u64
+}
+
+/// At times a poop that leads to a short search, if there is room for one.
+fn poop(random: &mut Random, ship: &Ship) -> Option<House> {
+    let room = ship.houses.first().map_or(ship.length, |first| first.aft) / 100;
+    let fore = 100 * random.between(1, 20.min(room.max(1)));
+    let height = low(random, false, ship.length);
+    let fits = ship.houses.len() < MAX_HOUSES && room > 0 && random.once_in(2);
+    fits.then_some(House { enclosed: true, quarterdeck: false, aft: 0, fore, height })
+}
+
+fn with(ship: &Ship, poop: Option<House>) -> Ship {
+    let houses = poop.map_or(ship.houses, |poop| ship.houses.after(poop));
+    Ship { houses, ..ship.clone() }
+}
+
+/// The ship with a depth and a fullness for which the freeboard is as wanted.
+fn tuned(random: &mut Random, mut ship: Ship) -> Option<Ship> {
+    let fifteenth = ship.length / 15;
+    let fine = (0..TRIES).any(|_| {
+        ship.depth = random.between(fifteenth, 2 * fifteenth).clamp(1_000, 60_000);
+        ship.cb = random.between(6_800, 10_000);
+        let steps = marks::steps(&ship);
+        let freeboard = steps.corrected.max(steps.bow);
+        freeboard > 50_000 && freeboard % 1000 <= 1 && marks::marks(&ship).is_ok()
+    });
+    fine.then_some(ship)
+}

@@ -51,7 +51,12 @@ with-house-spec =
     (λ c κs. search needs)
     (λ c κs. search needs)
     (λ c. search needs)
-    (λ c. search needs)
+    (λ c κs.
+    let e = c .before .before in
+    let s = e .before .before in
+    let d = s .pre .2 in
+    let over = ap (λ (u : Unrounded). u .bottom) (e .effective-of .ensures .1 .0) ∙ sym (d .bottoms (s .args .h .quarterdeck)) in
+    (e .effective-of .ensures .1 .1, d .sums, over))
     (λ c κs. search needs)
     (λ c. search needs)
     (λ c κs. search needs)

@@ -4,11 +4,12 @@ use mathlib.Core.Bool.{Bool}
 use mathlib.Core.List.{List, [], _∷_}
 use Prim.Native.Nat.{ℕ, _*_, _≤_, _<_, min}
 use native.Mathlib.Omega.{arith}
-use native.Mathlib.Nat.{mul-one, mul-pos, mul-le-mul-left, min-le-right}
+use native.Mathlib.Nat.{mul-one, mul-pos, mul-le-mul-left, min-le-right, min-eq-left, min-eq-right}
+use borrow.Author.Tests.{ltb-true, ltb-false}
 use Rattle.whole.specs.Pick.{pick}
 use Rattle.whole.proofs.Pick.{by-cases}
-use Rattle.whole.specs.Frac.{Frac, _≤f_, _≈f_, whole, frac, minf, _*f_, _÷f_}
-use Rattle.whole.proofs.Frac.{bot-of, same, sym≈, trans≤, +-mono≤}
+use Rattle.whole.specs.Frac.{Frac, _≤f_, _≈f_, _<f?_, whole, frac, minf, _*f_, _÷f_}
+use Rattle.whole.proofs.Frac.{bot-of, same, sym≈, trans≈, trans≤, +-mono≤}
 use Rattle.ship.specs.declared.House.{House}
 use Rattle.ship.specs.Vessel.{noHouse}
 use Rattle.houses.specs.Length.{partOf, total, coveredLength}
@@ -44,12 +45,32 @@ module _ (m h : ℕ) (s : Frac) (a : 0 < s .top) where
       trans≤ (same (sym≈ over-standard))
       (record { le = rw (bot-of (s .top) a) (omega (arith, mul-le-mul-left m (min-le-right (h * s .bot) (s .top)))) })
 
+  -- with a test in place of the lesser height
+  if-lower : whole m *f (minf (whole h) s ÷f s) ≈f pick (whole h <f? s) (whole m *f (whole h ÷f s)) (whole m)
+  if-lower =
+      trans≈ (sym≈ over-standard)
+      (by-cases (λ (x : Frac). frac (m * min (h * s .bot) (s .top)) (s .top) ≈f x) (whole h <f? s) _ _
+      (λ t.
+      let p = ltb-true (h * s .bot) (s .top * 1) t in
+      rw (min-eq-left {n = h * s .bot} {m = s .top} (omega arith)) (record { eq = rw (bot-of (s .top) a, bot-of (1 * s .top) (omega arith)) (omega arith) }))
+      (λ t.
+      let p = ltb-false (h * s .bot) (s .top * 1) t in
+      rw (min-eq-right {n = s .top} {m = h * s .bot} (omega arith)) (record { eq = rw (bot-of (s .top) a) (omega arith) })))
+
 pub standard-some : (l : ℕ) (quarterdeck : Bool) → 0 < standardHeight l quarterdeck .top
 standard-some l quarterdeck = omega (arith, standard-least l quarterdeck, standardHeight l quarterdeck .pos)
 
 pub exact-most : (l : ℕ) (h : House) → exactEffective l h ≤f whole (limitedLength l h)
 unfolding exactEffective
 exact-most l h = cut (limitedLength l h) (h .height .0) (standardHeight l (h .quarterdeck)) (standard-some l (h .quarterdeck))
+
+-- 02 says 01's rule in other words: l, times height over standard height if lower
+pub effective-if-lower : (l : ℕ) (h : House)
+    → exactEffective l h
+    ≈f pick (whole (h .height .0) <f? standardHeight l (h .quarterdeck))
+    (whole (limitedLength l h) *f (whole (h .height .0) ÷f standardHeight l (h .quarterdeck))) (whole (limitedLength l h))
+unfolding exactEffective
+effective-if-lower l h = if-lower (limitedLength l h) (h .height .0) (standardHeight l (h .quarterdeck)) (standard-some l (h .quarterdeck))
 
 -- E, exact, is at most 1000 S, and so at most 1000 L
 pub exact-by-covered : (l : ℕ) (hs : List House) → exactEffectiveLength l hs ≤f whole (1000 * coveredLength l hs)

@@ -4,3 +4,4 @@ pub mod Limits
 pub mod Rounded
 pub mod Midship
 pub mod Foremost
+pub mod Amidships

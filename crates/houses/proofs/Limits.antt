@@ -4,16 +4,16 @@ use mathlib.Core.Bool.{Bool}
 use mathlib.Core.List.{List, [], _∷_}
 use Prim.Native.Nat.{ℕ, _*_, _≤_, _<_, min}
 use native.Mathlib.Omega.{arith}
-use native.Mathlib.Nat.{mul-one, mul-pos, mul-le-mul-left, min-le-right, min-eq-left, min-eq-right}
+use native.Mathlib.Nat.{mul-one, zero-mul, zero-min, mul-pos, min-le-right, min-eq-left, min-eq-right}
 use borrow.Author.Tests.{ltb-true, ltb-false}
 use Rattle.whole.specs.Pick.{pick}
 use Rattle.whole.proofs.Pick.{by-cases}
-use Rattle.whole.specs.Frac.{Frac, _≤f_, _≈f_, _<f?_, whole, frac, minf, _*f_, _÷f_}
-use Rattle.whole.proofs.Frac.{bot-of, same, sym≈, trans≈, trans≤, +-mono≤}
+use Rattle.whole.specs.Frac.{Frac, _≤f_, _≈f_, _<f?_, whole, frac, minf, _÷f_}
+use Rattle.whole.proofs.Frac.{bot-of, same, refl≤, sym≈, trans≈, trans≤, +-mono≤, *-mono≤}
 use Rattle.ship.specs.declared.House.{House}
 use Rattle.ship.specs.Vessel.{noHouse}
 use Rattle.houses.specs.Length.{partOf, total, coveredLength}
-use Rattle.houses.specs.Height.{ordinaryHeight, raisedHeight, standardHeight}
+use Rattle.houses.specs.Height.{ordinaryHeight, raisedHeight, standardHeight, heightRatio}
 use Rattle.houses.specs.Effective.{limitedLength, exactEffective, exactEffectiveLength}
 
 pub part-most : (l : ℕ) (h : House) → partOf l h ≤ l
@@ -33,23 +33,22 @@ standard-least l quarterdeck =
     (λ q. by-cases P _ _ _ (λ t. omega arith) (λ t. by-cases P _ _ _ (λ u. omega arith) (λ u. by-cases P _ _ _ (λ v. omega arith) (λ v. omega arith))))
     (λ q. by-cases P _ _ _ (λ t. omega arith) (λ t. by-cases P _ _ _ (λ u. omega arith) (λ u. omega arith)))
 
--- ---- a length, times the lesser of height and standard height, over the standard height
--- as a numerator over the standard height's own
-module _ (m h : ℕ) (s : Frac) (a : 0 < s .top) where
-  pub over-standard : frac (m * min (h * s .bot) (s .top)) (s .top) ≈f whole m *f (minf (whole h) s ÷f s)
+-- ---- the lesser of a height h and a standard height s, over s
+module _ (h : ℕ) (s : Frac) (a : 0 < s .top) where
+  -- over the standard height's own numerator
+  over-standard : frac (min (h * s .bot) (s .top)) (s .top) ≈f minf (whole h) s ÷f s
   over-standard =
       record { eq = rw (bot-of (s .top) a, bot-of (1 * s .bot * s .top) (mul-pos (omega arith) a), mul-one (s .top)) (omega arith) }
 
-  cut : whole m *f (minf (whole h) s ÷f s) ≤f whole m
-  cut =
-      trans≤ (same (sym≈ over-standard))
-      (record { le = rw (bot-of (s .top) a) (omega (arith, mul-le-mul-left m (min-le-right (h * s .bot) (s .top)))) })
+  at-most-1 : minf (whole h) s ÷f s ≤f whole 1
+  at-most-1 =
+      trans≤ (same (sym≈ over-standard)) (record { le = rw (bot-of (s .top) a) (omega (arith, min-le-right (h * s .bot) (s .top))) })
 
   -- with a test in place of the lesser height
-  if-lower : whole m *f (minf (whole h) s ÷f s) ≈f pick (whole h <f? s) (whole m *f (whole h ÷f s)) (whole m)
+  if-lower : minf (whole h) s ÷f s ≈f pick (whole h <f? s) (whole h ÷f s) (whole 1)
   if-lower =
       trans≈ (sym≈ over-standard)
-      (by-cases (λ (x : Frac). frac (m * min (h * s .bot) (s .top)) (s .top) ≈f x) (whole h <f? s) _ _
+      (by-cases (λ (x : Frac). frac (min (h * s .bot) (s .top)) (s .top) ≈f x) (whole h <f? s) _ _
       (λ t.
       let p = ltb-true (h * s .bot) (s .top * 1) t in
       rw (min-eq-left {n = h * s .bot} {m = s .top} (omega arith)) (record { eq = rw (bot-of (s .top) a, bot-of (1 * s .top) (omega arith)) (omega arith) }))
@@ -60,17 +59,27 @@ module _ (m h : ℕ) (s : Frac) (a : 0 < s .top) where
 pub standard-some : (l : ℕ) (quarterdeck : Bool) → 0 < standardHeight l quarterdeck .top
 standard-some l quarterdeck = omega (arith, standard-least l quarterdeck, standardHeight l quarterdeck .pos)
 
-pub exact-most : (l : ℕ) (h : House) → exactEffective l h ≤f whole (limitedLength l h)
-unfolding exactEffective
-exact-most l h = cut (limitedLength l h) (h .height .0) (standardHeight l (h .quarterdeck)) (standard-some l (h .quarterdeck))
+-- ---- a house's height by its standard height
+module _ (l : ℕ) (h : House) where
+  abbrev standard : Frac
+  standard = standardHeight l (h .quarterdeck)
 
--- 02 says 01's rule in other words: l, times height over standard height if lower
-pub effective-if-lower : (l : ℕ) (h : House)
-    → exactEffective l h
-    ≈f pick (whole (h .height .0) <f? standardHeight l (h .quarterdeck))
-    (whole (limitedLength l h) *f (whole (h .height .0) ÷f standardHeight l (h .quarterdeck))) (whole (limitedLength l h))
-unfolding exactEffective
-effective-if-lower l h = if-lower (limitedLength l h) (h .height .0) (standardHeight l (h .quarterdeck)) (standard-some l (h .quarterdeck))
+  pub ratio-over : frac (min (h .height .0 * standard .bot) (standard .top)) (standard .top) ≈f heightRatio l h
+  unfolding heightRatio
+  ratio-over = over-standard (h .height .0) standard (standard-some l (h .quarterdeck))
+
+  pub ratio-most : heightRatio l h ≤f whole 1
+  unfolding heightRatio
+  ratio-most = at-most-1 (h .height .0) standard (standard-some l (h .quarterdeck))
+
+  -- 02's lesser height says 01's rule: height over standard height if lower
+  pub ratio-if-lower : heightRatio l h ≈f pick (whole (h .height .0) <f? standard) (whole (h .height .0) ÷f standard) (whole 1)
+  unfolding heightRatio
+  ratio-if-lower = if-lower (h .height .0) standard (standard-some l (h .quarterdeck))
+
+  pub exact-most : exactEffective l h ≤f whole (limitedLength l h)
+  unfolding exactEffective
+  exact-most = trans≤ (*-mono≤ (refl≤ (whole (limitedLength l h))) ratio-most) (omega arith)
 
 -- E, exact, is at most 1000 S, and so at most 1000 L
 pub exact-by-covered : (l : ℕ) (hs : List House) → exactEffectiveLength l hs ≤f whole (1000 * coveredLength l hs)
@@ -86,3 +95,8 @@ no-part l = omega arith
 
 pub no-limited : (l : ℕ) → limitedLength l noHouse ≡ 0
 no-limited l = omega (arith, limited-most l noHouse, no-part l)
+
+-- and no height
+pub no-ratio : (l : ℕ) → heightRatio l noHouse .top ≡ 0
+unfolding heightRatio
+no-ratio l = rw (zero-mul, zero-min, zero-mul)

@@ -3,10 +3,10 @@ use Prim.Native.Nat.{ℕ, _+_, _*_, min}
 use mathlib.Core.Bool.{Bool, not}
 use mathlib.Core.List.{List, [], _∷_}
 use Rattle.whole.specs.Pick.{pick}
-use Rattle.whole.specs.Frac.{Frac, whole, minf, _+f_, _*f_, _÷f_, floor}
+use Rattle.whole.specs.Frac.{Frac, whole, _+f_, _*f_, floor}
 use Rattle.ship.specs.declared.House.{House}
 use Rattle.houses.specs.Length.{partOf}
-use Rattle.houses.specs.Height.{standardHeight}
+use Rattle.houses.specs.Height.{heightRatio}
 
 -- l in um; a raised quarterdeck's is first limited to 0.6 L
 unfoldable pub limitedLength : ℕ → House → ℕ
@@ -14,9 +14,7 @@ limitedLength l h = pick (h .quarterdeck) (min (1000 * partOf l h) (600 * l)) (1
 
 -- of one house, a fraction: l, times the lesser of height and standard height, over the standard height
 unfoldable pub exactEffective : ℕ → House → Frac
-exactEffective l h =
-    let standard = standardHeight l (h .quarterdeck) in
-    whole (limitedLength l h) *f (minf (whole (h .height .0)) standard ÷f standard)
+exactEffective l h = whole (limitedLength l h) *f heightRatio l h
 
 -- E with no rounding: the sum over the houses
 unfoldable pub exactEffectiveLength : ℕ → List House → Frac

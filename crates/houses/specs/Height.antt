@@ -1,9 +1,10 @@
--- 33: standard heights, in mm, unrounded.
+-- 33: standard heights, in mm, unrounded; and a house's height by its standard height, as 31 and 35 ask for it.
 use Prim.Native.Nat.{ℕ, _*_, _-_}
 use mathlib.Core.Bool.{Bool}
 use lib.Dec.{leb, ltb}
 use Rattle.whole.specs.Pick.{pick}
-use Rattle.whole.specs.Frac.{Frac, whole, frac, _+f_}
+use Rattle.whole.specs.Frac.{Frac, whole, frac, minf, _+f_, _÷f_}
+use Rattle.ship.specs.declared.House.{House}
 
 -- linear from v at L = a to w at L = b
 abbrev pub linear : ℕ → ℕ → ℕ → ℕ → ℕ → Frac
@@ -24,3 +25,9 @@ raisedHeight l =
 
 unfoldable pub standardHeight : ℕ → Bool → Frac
 standardHeight l quarterdeck = pick quarterdeck (raisedHeight l) (ordinaryHeight l)
+
+-- the lesser of a house's height and the standard height of its kind, over the standard height
+unfoldable pub heightRatio : ℕ → House → Frac
+heightRatio l h =
+    let standard = standardHeight l (h .quarterdeck) in
+    minf (whole (h .height .0)) standard ÷f standard

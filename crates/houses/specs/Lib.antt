@@ -4,3 +4,4 @@ pub mod Effective
 pub mod Covered
 pub mod Forecastle
 pub mod Cover
+pub mod Amidships

@@ -1,11 +1,13 @@
-// A house on the freeboard deck: its length (34); whether it is the forecastle; its reach in 38's cover amidships. Its standard height and effective
-// length (33, 35) are worked in `effective`, by the definitions here; `summed` adds effective lengths, and `deck` gathers all that the houses give.
+// A house on the freeboard deck: its length (34); whether it is the forecastle; whether it covers what 31 asks for amidships; its reach in 38's cover there. Its
+// standard height and effective length (33, 35) are worked in `effective`, by the definitions here; `summed` adds effective lengths, and `deck` gathers all that
+// the houses give.
 ghost use mathlib.Core.Path.{_≡_};
 ghost use Prim.Native.Nat.{_*_, _≤_};
 ghost use Rattle.ship.specs.Good.{GoodHouse};
 ghost use Rattle.houses.specs.Length.{partOf};
 ghost use Rattle.houses.specs.Forecastle.{isForecastle};
 ghost use Rattle.houses.specs.Cover.{reachOf};
+ghost use Rattle.houses.specs.Amidships.{coversAmidships};
 use ship::House;
 use units::Span;
 use whole::less;
@@ -51,4 +53,16 @@ pub fn is_forecastle(l: Span, h: House) -> bool
 {
     let fp = units::forward_of_ap(l);
     h.enclosed & units::is_at_or_abaft(fp, h.fore)
+}
+
+// 31: whether a house, enclosed, covers the whole of 0.2 L to 0.8 L.
+pub fn covers_amidships(l: Span, h: House) -> bool
+    requires { ⌜ (l .0 ≤ 365000) × GoodHouse (l .0) h ⌝ }
+    ensures { λ r. ⌜ r ≡ coversAmidships (l .0) h ⌝ }
+{
+    let tenth = units::tenth_in_tenths(l);
+    let ap = units::in_tenths(units::forward_of_ap(Span(0)));
+    let aft = units::in_tenths(h.aft);
+    let fore = units::in_tenths(h.fore);
+    h.enclosed & (aft <= ap + 2 * tenth) & (ap + 8 * tenth <= fore)
 }

@@ -4,6 +4,7 @@ use mathlib.Core.Bool.{false}
 use mathlib.Core.List.{List, [], _∷_}
 use mathlib.Core.Path.{_≡_}
 use native.Mathlib.Omega.{arith}
+use native.Mathlib.Nat.{zero-mul, zero-min}
 use lib.ListN.{drop, length-drop}
 use lib.Seq.{getD-drop}
 use Rattle.whole.proofs.Pick.{pick-of}
@@ -14,26 +15,29 @@ use Rattle.houses.specs.Length.{partOf, total, coveredLength}
 use Rattle.houses.specs.Height.{standardHeight}
 use Rattle.houses.specs.Forecastle.{houseThat, isForecastle, forecastleOf}
 use Rattle.houses.specs.Cover.{reachOf, reach}
+use Rattle.houses.specs.Amidships.{coversAmidships, amidshipsOf}
 use Rattle.houses.proofs.Counted.{covered-most}
 use Rattle.houses.proofs.Limits.{part-most, no-part, no-limited}
 use Rattle.houses.proofs.Rounded.{effective-length-most}
 use Rattle.houses.proofs.Foremost.{of-that}
 use Rattle.houses.proofs.Midship.{reach-most}
-use Rattle.effective.specs.Unrounded.{topOf}
-use Rattle.effective.proofs.Unrounded.{fair-unrounded}
+use Rattle.effective.specs.Unrounded.{lesserOf, ratioOf, topOf}
+use Rattle.effective.proofs.Unrounded.{fair-ratio, fair-unrounded}
 use Rattle.summed.proofs.Sums.{summed-with, effective-summed, summed-over, fair-summed}
 use Rattle.deck.specs.Deck.{asForecastle, deckOf, deckWith, FairDeck}
 
 -- a house set before the others
 pub deck-with : (l : ℕ) (h : House) (hs : List House) → deckWith l h (deckOf l hs) ≡ deckOf l (h ∷ hs)
-unfolding deckWith deckOf coveredLength reach total forecastleOf houseThat
+unfolding deckWith deckOf coveredLength reach total forecastleOf amidshipsOf houseThat
 deck-with l h hs =
     let forecastle = pick-of (asForecastle l) (isForecastle l h) h (houseThat (isForecastle l) hs) in
+    let amidships = pick-of (ratioOf l) (coversAmidships l h) h (houseThat (coversAmidships l) hs) in
     λ i. record {
       s = record { 0 = total (partOf l) (h ∷ hs) };
       effective = summed-with l h hs i;
       reach = total (reachOf l) (h ∷ hs);
       forecastle = forecastle i;
+      amidships = amidships i;
     }
 
 pub fair-deck : (l : ℕ) (hs : List House) → l ≤ 365000 → GoodHouses l hs → FairDeck l (deckOf l hs)
@@ -47,12 +51,17 @@ fair-deck l hs p g = record {
   forecastle = fair-unrounded l (houseThat (isForecastle l) hs) p;
   part = part-most l (houseThat (isForecastle l) hs);
   height = of-that (λ h. h .height .0 ≤ 8191) (isForecastle l) hs (omega arith) (λ k h. g .each k h .height-most);
+  amidships = fair-ratio l (amidshipsOf l hs);
 }
 
 -- ---- the deck from the last house on
 no-top : (l : ℕ) → topOf l noHouse ≡ 0
 unfolding topOf
 no-top l = rw (no-limited l) (omega arith)
+
+no-lesser : (l : ℕ) → lesserOf l noHouse ≡ 0
+unfolding lesserOf
+no-lesser l = rw (zero-mul, zero-min)
 
 pub bare : (l : ℕ)
     → asForecastle l (forecastleOf l [])
@@ -63,6 +72,10 @@ bare l = λ i. record {
   part = record { 0 = no-part l i };
   height = record { 0 = 0 };
 }
+
+pub bare-amidships : (l : ℕ) → ratioOf l (amidshipsOf l []) ≡ record { top = 0; bottom = standardHeight l false .top }
+unfolding amidshipsOf houseThat
+bare-amidships l = λ i. record { top = no-lesser l i; bottom = standardHeight l false .top }
 
 pub good-from : (l : ℕ) (hs : List House) (k : ℕ) → GoodHouses l hs → GoodHouses l (drop k hs)
 good-from l hs k g =

@@ -1,5 +1,5 @@
--- What the houses of a list give to the steps, gathered; and how one more house before the others changes it. Each amount is the definition of 33 to 35, or of
--- 38's cover, that the steps name, E by its sums: nobody needs to believe this page.
+-- What the houses of a list give to the steps, gathered; and how one more house before the others changes it. Each amount is the definition of 33 to 35, of
+-- 31's house amidships or of 38's cover that the steps name, E by its sums: nobody needs to believe this page.
 use Prim.Native.Nat.{ℕ, _+_, _*_, _≤_}
 use mathlib.Core.Bool.{Bool}
 use mathlib.Core.List.{List}
@@ -10,7 +10,8 @@ use Rattle.houses.specs.Length.{partOf, coveredLength}
 use Rattle.houses.specs.Height.{standardHeight}
 use Rattle.houses.specs.Forecastle.{isForecastle, forecastleOf}
 use Rattle.houses.specs.Cover.{reachOf, reach}
-use Rattle.effective.specs.Unrounded.{topOf, unroundedOf, FairLength}
+use Rattle.houses.specs.Amidships.{coversAmidships, amidshipsOf}
+use Rattle.effective.specs.Unrounded.{ratioOf, FairRatio, topOf, unroundedOf, FairLength}
 use Rattle.summed.specs.Summed.{summedOf, bottomIn, summedWith, effectiveOn, FairSummed}
 use Rattle.deck.specs.declared.Deck.{Deck}
 use Rattle.deck.specs.declared.Forecastle.{Forecastle}
@@ -25,6 +26,7 @@ deckOf l hs = record {
   effective = summedOf l hs;
   reach = reach l hs;
   forecastle = asForecastle l (forecastleOf l hs);
+  amidships = ratioOf l (amidshipsOf l hs);
 }
 
 -- a deck with one more house before the others
@@ -34,6 +36,7 @@ deckWith l h d = record {
   effective = summedWith (h .quarterdeck) (topOf l h) (d .effective);
   reach = reachOf l h + d .reach;
   forecastle = pick (isForecastle l h) (asForecastle l h) (d .forecastle);
+  amidships = pick (coversAmidships l h) (ratioOf l h) (d .amidships);
 }
 
 -- amounts that leave room for what is worked with them
@@ -46,3 +49,4 @@ pub record FairDeck (l : ℕ) (d : Deck) : Type 0 where
   pub forecastle : FairLength (d .forecastle .effective)
   pub part : d .forecastle .part .0 ≤ l
   pub height : d .forecastle .height .0 ≤ 8191
+  pub amidships : FairRatio (d .amidships)

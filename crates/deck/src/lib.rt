@@ -1,12 +1,17 @@
-// What the houses on a deck give to the steps: sums over them (33 to 35, and 38's cover), and the forecastle.
+// What the houses on a deck give to the steps: sums over them (33 to 35, and 38's cover), the forecastle, and the house amidships (31).
 ghost use mathlib.Core.Path.{_≡_};
 ghost use mathlib.Core.List.{[]};
 ghost use Prim.Native.Nat.{_≤_};
 ghost use lib.ListN.{take};
+ghost use Rattle.whole.specs.Pick.{pick};
 ghost use Rattle.ship.specs.Good.{GoodHouse, GoodHouses};
-ghost use Rattle.deck.specs.Deck.{deckOf, deckWith, FairDeck};
+ghost use Rattle.houses.specs.Forecastle.{isForecastle};
+ghost use Rattle.houses.specs.Amidships.{coversAmidships};
+ghost use Rattle.effective.specs.Unrounded.{ratioOf, unroundedOf};
+ghost use Rattle.deck.specs.Deck.{asForecastle, deckOf, deckWith, FairDeck};
 use ship::House;
 use summed::Summed;
+use units::Ratio;
 use units::Span;
 use units::Unrounded;
 
@@ -17,12 +22,42 @@ pub struct Forecastle {
     pub height: Span,
 }
 
-// S, the sums of the effective lengths, the cover's reach in tenths of a millimetre, and the forecastle.
+// S, the sums of the effective lengths, the cover's reach in tenths of a millimetre, the forecastle, and the ratio of heights of the house amidships, 0 where
+// there is none.
 pub struct Deck {
     pub s: Span,
     pub effective: Summed,
     pub reach: u64,
     pub forecastle: Forecastle,
+    pub amidships: Ratio,
+}
+
+// The forecastle with one more house before the others, of effective length `own`.
+fn forecastle_with(l: Span, h: House, own: Unrounded, forecastle: Forecastle) -> Forecastle
+    requires { ⌜ (l .0 ≤ 365000) × (own ≡ unroundedOf (l .0) h) ⌝ }
+    ensures { λ r. ⌜ r ≡ pick (isForecastle (l .0) h) (asForecastle (l .0) h) forecastle ⌝ }
+{
+    if houses::is_forecastle(l, h) {
+        let part = houses::part(l, h);
+        let height = h.height;
+        return Forecastle {
+            effective: own,
+            part,
+            height,
+        };
+    }
+    forecastle
+}
+
+// The ratio of heights of the house amidships, with one more house before the others.
+fn amidships_with(l: Span, h: House, ratio: Ratio) -> Ratio
+    requires { ⌜ (l .0 ≤ 365000) × GoodHouse (l .0) h ⌝ }
+    ensures { λ r. ⌜ r ≡ pick (coversAmidships (l .0) h) (ratioOf (l .0) h) ratio ⌝ }
+{
+    if houses::covers_amidships(l, h) {
+        return effective::height_ratio(l, h);
+    }
+    ratio
 }
 
 // A deck with one more house before the others.
@@ -35,20 +70,14 @@ pub fn with_house(l: Span, h: House, d: Deck) -> Deck
     let s = Span(part.0 + d.s.0);
     let effective = summed::with_one(h.quarterdeck, own, d.effective);
     let reach = houses::reach_of(l, h) + d.reach;
-    let mut forecastle = d.forecastle;
-    if houses::is_forecastle(l, h) {
-        let height = h.height;
-        forecastle = Forecastle {
-            effective: own,
-            part,
-            height,
-        };
-    }
+    let forecastle = forecastle_with(l, h, own, d.forecastle);
+    let amidships = amidships_with(l, h, d.amidships);
     Deck {
         s,
         effective,
         reach,
         forecastle,
+        amidships,
     }
 }
 
@@ -63,11 +92,16 @@ fn bare_deck(l: Span) -> Deck
         part: Span(0),
         height: Span(0),
     };
+    let amidships = Ratio {
+        top: 0,
+        bottom: nothing.bottom,
+    };
     Deck {
         s: Span(0),
         effective,
         reach: 0,
         forecastle,
+        amidships,
     }
 }
 

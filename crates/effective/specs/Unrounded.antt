@@ -1,7 +1,8 @@
--- Standard heights and effective lengths as code has them, by numerator and denominator, of numbers that leave room for products. `unrounded-exact` ties them to
--- 35's fraction: nobody needs to believe this page.
+-- Standard heights, ratios of heights and effective lengths as code has them, by numerator and denominator, of numbers that leave room for products.
+-- `ratio-exact` and `unrounded-exact` tie them to 33's and 35's fractions: nobody needs to believe this page.
 use Prim.Native.Nat.{ℕ, _*_, _≤_, min}
 use Rattle.whole.specs.Frac.{Frac}
+use Rattle.units.specs.declared.Ratio.{Ratio}
 use Rattle.units.specs.declared.Unrounded.{Unrounded}
 use Rattle.ship.specs.declared.House.{House}
 use Rattle.houses.specs.Height.{standardHeight}
@@ -26,8 +27,19 @@ pub record Sized (s : Standard) : Type 0 where
   pub per-most : s .per ≤ 50000
 
 -- of one house, over the numerator of its standard height
+unfoldable pub lesserOf : ℕ → House → ℕ
+lesserOf l h = min (h .height .0 * standardHeight l (h .quarterdeck) .bot) (standardHeight l (h .quarterdeck) .top)
+
+abbrev pub ratioOf : ℕ → House → Ratio
+ratioOf l h = record { top = lesserOf l h; bottom = standardHeight l (h .quarterdeck) .top }
+
+pub record FairRatio (r : Ratio) : Type 0 where
+  pub at-most-1 : r .top ≤ r .bottom
+  pub bottom-least : 1 ≤ r .bottom
+  pub bottom-most : r .bottom ≤ greatestSize
+
 unfoldable pub topOf : ℕ → House → ℕ
-topOf l h = limitedLength l h * min (h .height .0 * standardHeight l (h .quarterdeck) .bot) (standardHeight l (h .quarterdeck) .top)
+topOf l h = limitedLength l h * lesserOf l h
 
 abbrev pub unroundedOf : ℕ → House → Unrounded
 unroundedOf l h = record { top = topOf l h; bottom = standardHeight l (h .quarterdeck) .top }

@@ -1,12 +1,14 @@
-// The effective length of a house (33, 35): its length, limited, by its height over the standard height. It is a fraction, which nothing here rounds.
+// The standard height of a house (33), the ratio of its height to that, and its effective length (35), which is its length, limited, in that ratio. Both are
+// fractions, which nothing here rounds.
 ghost use mathlib.Core.Path.{_≡_};
 ghost use Prim.Native.Nat.{_*_, _≤_, _<_};
 ghost use Rattle.whole.specs.Frac.{frac, _≈f_};
 ghost use Rattle.houses.specs.Height as Height;
 ghost use Rattle.houses.specs.Effective.{limitedLength, exactEffective};
-ghost use Rattle.effective.specs.Unrounded.{standardOf, Sized, unroundedOf, FairLength};
+ghost use Rattle.effective.specs.Unrounded.{standardOf, Sized, ratioOf, FairRatio, unroundedOf, FairLength};
 use ship::House;
 use units::Effective;
+use units::Ratio;
 use units::Span;
 use units::Unrounded;
 use whole::lesser;
@@ -82,6 +84,22 @@ fn limited_length(l: Span, h: House) -> Effective
     um
 }
 
+// The ratio of a house's height to its standard height, 1 where it is no lower.
+pub fn height_ratio(l: Span, h: House) -> Ratio
+    requires { ⌜ h .height .0 ≤ 8191 ⌝ }
+    ensures { λ r. ⌜ frac (r .top) (r .bottom) ≈f Height.heightRatio (l .0) h ⌝ }
+    ensures { λ r. ⌜ r ≡ ratioOf (l .0) h ⌝ }
+    ensures { λ r. ⌜ FairRatio r ⌝ }
+{
+    let standard = standard_height(l, h.quarterdeck);
+    let size = standard.size;
+    let height = lesser(h.height.0 * standard.per, size);
+    Ratio {
+        top: height,
+        bottom: size,
+    }
+}
+
 // 35: the effective length of a house, over the numerator of its standard height. All ordinary houses have the same one, so their numerators can be added.
 pub fn effective_of(l: Span, h: House) -> Unrounded
     requires { ⌜ (l .0 ≤ 365000) × (h .height .0 ≤ 8191) ⌝ }
@@ -90,11 +108,10 @@ pub fn effective_of(l: Span, h: House) -> Unrounded
     ensures { λ r. ⌜ FairLength r ⌝ }
 {
     let length = limited_length(l, h);
-    let standard = standard_height(l, h.quarterdeck);
-    let size = standard.size;
-    let height = lesser(h.height.0 * standard.per, size);
+    let ratio = height_ratio(l, h);
+    let bottom = ratio.bottom;
     Unrounded {
-        top: length.0 * height,
-        bottom: size,
+        top: length.0 * ratio.top,
+        bottom,
     }
 }

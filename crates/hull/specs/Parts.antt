@@ -10,13 +10,14 @@ use Rattle.bow.specs.Bow.{higher, lower, sheerTaken}
 use Rattle.steps.specs.Steps.{typeB, basis}
 use Rattle.hull.specs.declared.Hull.{Hull}
 
--- what the type decides (28, 40), what depth adds (31), the mean of the sheer (38), and the bow height before the forecastle is taken (39)
+-- what the type decides (28, 40), depth and what it adds (31), the mean of the sheer (38), and the bow height before the forecastle is taken (39)
 unfoldable pub hullOf : Ship → Hull
 hullOf x = record {
   b = typeB x;
   length = x .length;
   block = counted (x .block);
   basis = record { line = record { 0 = basis x .line }; floor = basis x .floor };
+  depth = x .depth;
   deep = record { 0 = depthAddition (x .length .0) (x .depth .0) };
   mean = record {
     deficiency = record { 0 = Sheer.deficiency (Sheer.afterSum (x .sheer)) (Sheer.forwardSum (x .sheer)) (x .length .0) };
@@ -35,6 +36,7 @@ pub record FairHull (h : Hull) : Type 0 where
   pub block : h .block ≤ 12000
   pub line : h .basis .line .0 ≤ 6000000
   pub floor : h .basis .floor ≤ 60000
+  pub depth : h .depth .0 ≤ 60000
   pub deep : h .deep .0 ≤ 15000000
   pub deficiency : h .mean .deficiency .0 ≤ 9000000
   pub excess : h .mean .excess .0 ≤ 7200000

@@ -19,13 +19,14 @@ pub struct Basis {
     pub floor: u64,
 }
 
-// What the type decides (28, 40), what depth adds (31), the mean of the sheer (38), and the bow height asked for before the forecastle is taken (39).
+// What the type decides (28, 40), depth and what it adds (31), the mean of the sheer (38), and the bow height asked for before the forecastle is taken (39).
 // The block coefficient is the one that counts (30).
 pub struct Hull {
     pub b: bool,
     pub length: Span,
     pub block: u64,
     pub basis: Basis,
+    pub depth: Span,
     pub deep: Freeboard,
     pub mean: Mean,
     pub bow: Height,
@@ -59,7 +60,8 @@ pub fn hull_of(x: Ship) -> Hull
     let o = x.sheer;
     let block = fullness::counted_block(x.block);
     let basis = basis_of(b, length);
-    let deep = depth::addition(length, x.depth);
+    let d = x.depth;
+    let deep = depth::addition(length, d);
     let mean = sheer::mean_sheer(length, o);
     let bow = bow::asked(length, x.moulded, block, x.waterplane, o[4], o[5]);
     Hull {
@@ -67,6 +69,7 @@ pub fn hull_of(x: Ship) -> Hull
         length,
         block,
         basis,
+        depth: d,
         deep,
         mean,
         bow,

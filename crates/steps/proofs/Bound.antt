@@ -1,12 +1,13 @@
 -- Demand 2: the summer mark of every accepted ship is never below its exact value, and less than 1.1 mm above it.
--- What each rounding can cost adds up along the formula: 3.45 um up to depth, 3.25 um in the houses' deduction, 2 um in sheer; 13 um in the bow's freeboard.
+-- What each rounding can cost adds up along the formula: 3.45 um up to what depth adds, 1 um in what it takes, 3.25 um in the houses' deduction, 2 um in sheer;
+-- 13 um in the bow's freeboard.
 -- Before the last rounding, to whole mm, 100 um would do (`summer-holds`).
 use Prim.Native.Nat.{_*_, _-_, _≤_}
 use native.Mathlib.Omega.{arith}
 use Rattle.whole.specs.Frac.{_-f_, whole, frac}
 use Rattle.whole.specs.Round.{Within, Below}
 use Rattle.whole.proofs.Pick.{by-cases}
-use Rattle.whole.proofs.Round.{loosen, exactly}
+use Rattle.whole.proofs.Round.{loosen, exactly, below-sum}
 use Rattle.units.specs.Datum.{sheerAt}
 use Rattle.percentages.specs.declared.Row.the-variants.{Ordinary}
 use Rattle.percentages.specs.Table37.{ordinaryRow}
@@ -14,10 +15,12 @@ use Rattle.percentages.proofs.Rule37.{each-row}
 use Rattle.ship.specs.declared.Ship.{Ship}
 use Rattle.ship.specs.Vessel.{housesOf}
 use Rattle.houses.specs.Length.{partOf}
+use Rattle.houses.specs.Height.{heightRatio}
 use Rattle.houses.specs.Effective.{exactEffective}
 use Rattle.houses.proofs.Rounded.{effective-length-below}
 use Rattle.houses.proofs.Midship.{reach-most}
 use Rattle.corrections.specs.Fullness30.{counted}
+use Rattle.corrections.proofs.Depth31.{reduction-below}
 use Rattle.corrections.proofs.Gathered.{added-within}
 use Rattle.deduction.proofs.Deduction37.{deducted-below}
 use Rattle.sheer.proofs.Bound.{sheer-within}
@@ -25,7 +28,7 @@ use Rattle.bow.proofs.Bound.{bow-within}
 use Rattle.mark.specs.Summer.{Holds}
 use Rattle.mark.proofs.Bound.{summer-holds}
 use Rattle.steps.specs.Basis.{Basis, basisOf}
-use Rattle.steps.specs.Steps.{Sound, typeB, basis, coveredS, effectiveE, forecastleHouse, coverReach, addedTo, takenFrom, bowOf, summerOf}
+use Rattle.steps.specs.Steps.{Sound, typeB, basis, coveredS, effectiveE, forecastleHouse, amidshipsHouse, coverReach, addedTo, takenFrom, bowOf, summerOf}
 use Rattle.steps.specs.Exact.{exactE, exactAddedTo, exactTakenFrom, exactBowOf, exactSummerOf}
 
 -- the line that a type starts from is exact
@@ -38,8 +41,8 @@ short : (x : Ship) → Below (effectiveE x) (exactE x) (whole 2)
 unfolding effectiveE exactE
 short x = effective-length-below (x .length .0) (housesOf x)
 
--- the corrected value, what is added less what is taken: never below the exact difference, and at most 8.7 um above it
-pub corrected-within : (x : Ship) → Sound x → Within (addedTo x - takenFrom ordinaryRow x) (exactAddedTo x -f exactTakenFrom ordinaryRow x) (frac 87 10)
+-- the corrected value, what is added less what is taken: never below the exact difference, and at most 9.7 um above it
+pub corrected-within : (x : Ship) → Sound x → Within (addedTo x - takenFrom ordinaryRow x) (exactAddedTo x -f exactTakenFrom ordinaryRow x) (frac 97 10)
 unfolding addedTo takenFrom exactAddedTo exactTakenFrom
 corrected-within x k =
     let g = k .good in
@@ -48,7 +51,8 @@ corrected-within x k =
     let r : coverReach x ≤ 2 * l = unfold coverReach in reach-most l (housesOf x) (g .houses) in
     let a = loosen {f = frac 345 100} (omega arith) (added-within (line-exact x) (typeB x) l (x .depth .0) (counted (x .block)) (effectiveE x) (exactE x) (g .length-least) (omega arith) w) in
     let d = loosen {f = frac 325 100} (omega arith) (deducted-below (each-row Ordinary .rising) (typeB x) (exactEffective l (forecastleHouse x)) l (effectiveE x) (exactE x) (g .length-least) w) in
-    loosen (omega arith) (sheer-within (x .sheer) l (coveredS x) (coverReach x) (omega arith) r a d)
+    let t = below-sum (reduction-below l (x .depth .0) (heightRatio l (amidshipsHouse x))) d in
+    loosen (omega arith) (sheer-within (x .sheer) l (coveredS x) (coverReach x) (omega arith) r a t)
 
 -- the bow's freeboard: never below the exact one, and at most 13 um above it
 pub bow-freeboard-within : (x : Ship) → Sound x → Within (bowOf x) (exactBowOf x) (whole 13)

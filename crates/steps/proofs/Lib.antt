@@ -1,2 +1,3 @@
 pub mod Bound
 pub mod Particulars
+pub mod Depth

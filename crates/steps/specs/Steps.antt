@@ -1,4 +1,4 @@
--- 01, "Steps to the summer mark", put together for a ship. Each step is the definition of its own regulation's crate.
+-- 01, "Steps to the summer mark", with 02, put together for a ship. Each step is the definition of its own regulation's crate.
 use Prim.Native.Nat.{ℕ, _+_, _≤_}
 use mathlib.Core.Bool.{Bool}
 use mathlib.Core.List.{List}
@@ -10,10 +10,13 @@ use Rattle.ship.specs.declared.Ship.{Ship}
 use Rattle.ship.specs.Vessel.{housesOf}
 use Rattle.ship.specs.Good.{Good}
 use Rattle.houses.specs.Length.{partOf, coveredLength}
+use Rattle.houses.specs.Height.{heightRatio}
 use Rattle.houses.specs.Effective.{exactEffective, effectiveLength}
 use Rattle.houses.specs.Forecastle.{forecastleOf}
+use Rattle.houses.specs.Amidships.{amidshipsOf}
 use Rattle.houses.specs.Cover.{reach}
 use Rattle.corrections.specs.Fullness30.{counted}
+use Rattle.corrections.specs.Depth31.{depthReduction}
 use Rattle.corrections.specs.Gathered as Before
 use Rattle.deduction.specs.Deduction37.{deducted}
 use Rattle.sheer.specs.Sheer as Sheer
@@ -31,7 +34,7 @@ pub record Sound (x : Ship) : Type 0 where
 abbrev pub typeB : Ship → Bool
 typeB x = eqb (x .kind) 1
 
--- houses (33-35): S in mm, E in um, the forecastle, and the reach of the cover in tenths of a mm
+-- houses (33-35): S in mm, E in um, the forecastle, the house amidships (31), and the reach of the cover in tenths of a mm
 unfoldable pub coveredS : Ship → ℕ
 coveredS x = coveredLength (x .length .0) (housesOf x)
 
@@ -40,6 +43,9 @@ effectiveE x = effectiveLength (x .length .0) (housesOf x)
 
 unfoldable pub forecastleHouse : Ship → House
 forecastleHouse x = forecastleOf (x .length .0) (housesOf x)
+
+unfoldable pub amidshipsHouse : Ship → House
+amidshipsHouse x = amidshipsOf (x .length .0) (housesOf x)
 
 unfoldable pub coverReach : Ship → ℕ
 coverReach x = reach (x .length .0) (housesOf x)
@@ -54,10 +60,11 @@ addedTo x =
     Before.added (basis x .line) (typeB x) (x .length .0) (x .depth .0) (counted (x .block)) (effectiveE x)
     + Sheer.added (x .sheer) (x .length .0) (coveredS x)
 
--- what is taken away: the houses' deduction (37) by a row of percentages, and sheer (38) in excess
+-- what is taken away: depth (31) below L / 15 with a house amidships, the houses' deduction (37) by a row of percentages, and sheer (38) in excess
 unfoldable pub takenFrom : List ℕ → Ship → ℕ
 takenFrom row x =
-    deducted (typeB x) row (exactEffective (x .length .0) (forecastleHouse x)) (x .length .0) (effectiveE x)
+    depthReduction (x .length .0) (x .depth .0) (heightRatio (x .length .0) (amidshipsHouse x))
+    + deducted (typeB x) row (exactEffective (x .length .0) (forecastleHouse x)) (x .length .0) (effectiveE x)
     + Sheer.deducted (x .sheer) (x .length .0) (coveredS x) (coverReach x)
 
 -- bow height (39)

@@ -11,28 +11,32 @@ use Rattle.ship.specs.declared.Ship.{Ship}
 use Rattle.ship.specs.Vessel.{housesOf}
 use Rattle.houses.specs.Length.{partOf}
 use Rattle.houses.specs.Forecastle.{forecastleOf}
+use Rattle.houses.specs.Amidships.{amidshipsOf}
 use Rattle.corrections.specs.Fullness30.{counted}
 use Rattle.deduction.specs.Deduction37.{deduction, deducted}
 use Rattle.corrections.specs.Gathered as Before
+use Rattle.corrections.proofs.Depth31.{reduction-same}
 use Rattle.deduction.proofs.Deduction37.{lacks-same}
 use Rattle.sheer.specs.Sheer as Sheer
 use Rattle.bow.specs.Bow.{higher, lower, sheerTaken, forecastleTaken, bowFreeboard}
 use Rattle.mark.specs.Summer.{summerMark}
-use Rattle.effective.proofs.Unrounded.{unrounded-exact}
+use Rattle.effective.proofs.Unrounded.{ratio-exact, unrounded-exact}
 use Rattle.summed.proofs.Sums.{effective-summed}
 use Rattle.deck.specs.Deck.{deckOf}
-use Rattle.steps.specs.Steps.{typeB, basis, coveredS, effectiveE, forecastleHouse, coverReach, addedTo, takenFrom, bowOf, summerOf}
+use Rattle.steps.specs.Steps.{typeB, basis, coveredS, effectiveE, forecastleHouse, amidshipsHouse, coverReach, addedTo, takenFrom, bowOf, summerOf}
 use Rattle.hull.specs.Parts.{hullOf}
 use Rattle.summer.specs.Parts.{addedOn, takenOn, bowOn, summerOn}
 
--- 37's test says the same of the forecastle's fraction however it is written
+-- 31's ratio of heights and the forecastle's fraction in 37's test, however each is written
 taken-parts : (row : List ℕ) (x : Ship)
-    → takenOn row (hullOf x) (deckOf (x .length .0) (housesOf x) .forecastle .effective) (effectiveE x) (Sheer.deducted (x .sheer) (x .length .0) (coveredS x) (coverReach x))
+    → let d = deckOf (x .length .0) (housesOf x) in
+    takenOn row (hullOf x) (d .amidships) (d .forecastle .effective) (effectiveE x) (Sheer.deducted (x .sheer) (x .length .0) (coveredS x) (coverReach x))
     ≡ takenFrom row x
-unfolding takenOn hullOf deckOf takenFrom forecastleHouse deducted
+unfolding takenOn hullOf deckOf takenFrom forecastleHouse amidshipsHouse deducted
 taken-parts row x =
     let l = x .length .0 in
-    ap (λ (t : Bool). pick t 0 (deduction row l (effectiveE x)) + Sheer.deducted (x .sheer) l (coveredS x) (coverReach x))
+    ap₂ (λ (n : ℕ) (t : Bool). n + pick t 0 (deduction row l (effectiveE x)) + Sheer.deducted (x .sheer) l (coveredS x) (coverReach x))
+    (reduction-same l (x .depth .0) (ratio-exact l (amidshipsOf l (housesOf x))))
     (lacks-same (typeB x) l (unrounded-exact l (forecastleOf l (housesOf x))))
 
 bow-parts : (x : Ship) → bowOn (hullOf x) (deckOf (x .length .0) (housesOf x)) ≡ bowOf x

@@ -3,16 +3,18 @@ ghost use mathlib.Core.Path.{_≡_};
 ghost use Prim.Native.Nat.{_*_, _≤_, _^_};
 ghost use Rattle.percentages.specs.Table37.{entries};
 ghost use Rattle.deduction.specs.Deduction37.{deduction};
-ghost use Rattle.effective.specs.Unrounded.{FairLength};
+ghost use Rattle.effective.specs.Unrounded.{FairRatio, FairLength};
 ghost use Rattle.deck.specs.Deck.{FairDeck};
 ghost use Rattle.hull.specs.Parts.{FairHull};
 ghost use Rattle.summer.specs.Parts.{addedOn, takenOn, summerOn};
 use corrections::before_sheer;
+use corrections::depth;
 use deck::Deck;
 use hull::Hull;
 use percentages::Row;
 use units::Effective;
 use units::Freeboard;
+use units::Ratio;
 use units::Span;
 use units::Unrounded;
 
@@ -39,15 +41,24 @@ fn added(h: Hull, e: Effective, lacking: Freeboard) -> Freeboard
     units::sum(units::sum(full, h.deep), lacking)
 }
 
-// What is taken: the houses' deduction (37) by a row of percentages, and sheer where it is in excess (38).
-fn taken(row: Row, h: Hull, forecastle: Unrounded, e: Effective, excess: Freeboard) -> Freeboard
-    requires { ⌜ FairHull h × FairLength forecastle × (e .0 ≤ 1000 * h .length .0) × (excess .0 ≤ 456250) ⌝ }
-    ensures { λ r. ⌜ r .0 ≡ takenOn (entries row) h forecastle (e .0) (excess .0) ⌝ }
+// What is taken: depth below L / 15 (31) by the ratio of heights of the house amidships, the houses' deduction (37) by a row of percentages, and sheer where it
+// is in excess (38).
+fn taken(
+    row: Row,
+    h: Hull,
+    amidships: Ratio,
+    forecastle: Unrounded,
+    e: Effective,
+    excess: Freeboard,
+) -> Freeboard
+    requires { ⌜ FairHull h × FairRatio amidships × FairLength forecastle × (e .0 ≤ 1000 * h .length .0) × (excess .0 ≤ 456250) ⌝ }
+    ensures { λ r. ⌜ r .0 ≡ takenOn (entries row) h amidships forecastle (e .0) (excess .0) ⌝ }
 {
     let l = h.length;
+    let shallow = depth::reduction(l, h.depth, amidships);
     let full = deduction_by(row, l, e);
     let granted = deduction::if_granted(h.b, forecastle, l, full);
-    units::sum(granted, excess)
+    units::sum(units::sum(shallow, granted), excess)
 }
 
 // The summer mark of a hull and a deck, in millimetres.
@@ -60,7 +71,7 @@ pub fn summer_on(h: Hull, d: Deck) -> u64
     let e = summed::effective_length(d.effective);
     let c = sheer_correction::correct(h.mean, l, d.s, d.reach);
     let gained = added(h, e, c.added);
-    let lost = taken(Row::Ordinary, h, forecastle.effective, e, c.deducted);
+    let lost = taken(Row::Ordinary, h, d.amidships, forecastle.effective, e, c.deducted);
     let bow = bow::freeboard(h.bow, l, forecastle.part, forecastle.height);
     mark::summer(h.basis.floor, gained, lost, bow)
 }

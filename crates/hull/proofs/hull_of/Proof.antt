@@ -21,7 +21,7 @@ hull-of-spec =
     (λ c.
     let m = c .before .before .before in
     let a = m .before in
-    let t = a .before in
+    let t = a .before .before in
     let k = t .before in
     let s = k .before .before .before .before in
     let x = s .args .x in
@@ -33,6 +33,7 @@ hull-of-spec =
         length = x .length;
         block = k .counted-block .ensures .0 i;
         basis = record { line = record { 0 = t .basis-of .ensures .0 .0 i }; floor = t .basis-of .ensures .0 .1 i };
+        depth = x .depth;
         deep = record { 0 = a .addition .ensures .0 i };
         mean = record { deficiency = record { 0 = m .mean-sheer .ensures .0 .0 i }; excess = record { 0 = m .mean-sheer .ensures .0 .1 i } };
         bow = record { above = record { 0 = above i }; below = record { 0 = below i } };
@@ -43,6 +44,7 @@ hull-of-spec =
         block = omega arith;
         line = t .basis-of .ensures .1 .0;
         floor = t .basis-of .ensures .1 .1;
+        depth = g .depth-most;
         deep = a .addition .ensures .1;
         deficiency = m .mean-sheer .ensures .1 .0;
         excess = m .mean-sheer .ensures .1 .1;

@@ -27,5 +27,5 @@ summer-on-spec =
     let d = e .before .before .before .args .d in
     let h = e .before .before .before .args .h in
     let gained = a .added .ensures .0 ∙ (λ i. addedOn h (e .effective-length .ensures i) (s .correct .ensures .0 .0 i)) in
-    let lost = t .taken .ensures ∙ (λ i. takenOn ordinaryRow h (d .forecastle .effective) (e .effective-length .ensures i) (s .correct .ensures .0 .1 i)) in
+    let lost = t .taken .ensures ∙ (λ i. takenOn ordinaryRow h (d .amidships) (d .forecastle .effective) (e .effective-length .ensures i) (s .correct .ensures .0 .1 i)) in
     c .summer .ensures .0 ∙ (λ i. summerMark (h .basis .floor) (gained i) (lost i) (b .freeboard .ensures .0 i))))

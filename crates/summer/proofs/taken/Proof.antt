@@ -13,7 +13,10 @@ taken-spec =
     (λ c κs. search needs)
     (λ c κs. search needs)
     (λ c κs. search needs)
+    (λ c κs. search needs)
+    (λ c κs. search needs)
     (λ c.
-    let g = c .before in
+    let s = c .before in
+    let g = s .before in
     let f = g .before in
-    rw (c .sum .ensures, g .if-granted .ensures .0, f .deduction-by .ensures .0) refl))
+    rw (c .sum2 .ensures, s .sum .ensures, g .if-granted .ensures .0, f .deduction-by .ensures .0, f .before .reduction .ensures .0) refl))

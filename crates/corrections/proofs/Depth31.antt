@@ -88,34 +88,39 @@ depth-level l d ratio e =
     (rw (le-ltb (l * 1) (d * 15) (omega arith)) (ceil-whole 0), rw (le-ltb (d * 15) (l * 1) (omega arith)) refl)
 
 -- where the test fails, the difference is nothing anyhow
-addition-untested : (l d : ℕ) → exactDepthAddition l d ≈f (whole d -f frac l 15) *f rate l
+pub addition-untested : (l d : ℕ) → exactDepthAddition l d ≈f (whole d -f frac l 15) *f rate l
 unfolding exactDepthAddition
 addition-untested l d =
     by-cases (λ (x : Frac). x ≈f (whole d -f frac l 15) *f rate l) (frac l 15 <f? whole d) _ _ (λ t. refl≈ _)
     (λ t. let z : d * 15 - l * 1 ≡ 0 = omega (arith, ltb-false (l * 1) (d * 15) t) in rw z (omega arith))
 
-reduction-untested : (l d : ℕ) (ratio : Frac) → exactDepthReduction l d ratio ≈f (frac l 15 -f whole d) *f rate l *f ratio
+pub reduction-untested : (l d : ℕ) (ratio : Frac) → exactDepthReduction l d ratio ≈f (frac l 15 -f whole d) *f rate l *f ratio
 unfolding exactDepthReduction
 reduction-untested l d ratio =
     by-cases (λ (x : Frac). x ≈f (frac l 15 -f whole d) *f rate l *f ratio) (whole d <f? frac l 15) _ _ (λ t. refl≈ _)
     (λ t. let z : l * 1 - d * 15 ≡ 0 = omega (arith, ltb-false (d * 15) (l * 1) t) in rw z (omega arith))
 
--- a deeper ship is given no less, and has no more taken from it
+-- a deeper ship has no less added, and no more taken: with no rounding
+pub exact-addition-rises : (l d e : ℕ) → d ≤ e → exactDepthAddition l d ≤f exactDepthAddition l e
+exact-addition-rises l d e h =
+    trans≤ (same (addition-untested l d))
+    (trans≤ (*-mono≤ (sub-mono {x = whole d} {y = whole e} (omega arith) (refl≤ (frac l 15))) (refl≤ (rate l)))
+    (same (sym≈ (addition-untested l e))))
+
+pub exact-reduction-falls : (l d e : ℕ) (ratio : Frac) → d ≤ e → exactDepthReduction l e ratio ≤f exactDepthReduction l d ratio
+exact-reduction-falls l d e ratio h =
+    trans≤ (same (reduction-untested l e ratio))
+    (trans≤ (*-mono≤ (*-mono≤ (sub-mono {z = whole d} {w = whole e} (refl≤ (frac l 15)) (omega arith)) (refl≤ (rate l))) (refl≤ ratio))
+    (same (sym≈ (reduction-untested l d ratio))))
+
+-- and rounded
 pub addition-rises : (l d e : ℕ) → d ≤ e → depthAddition l d ≤ depthAddition l e
 unfolding depthAddition
-addition-rises l d e h =
-    ceil-under (depthAddition l e)
-    (trans≤ (same (addition-untested l d))
-    (trans≤ (*-mono≤ (sub-mono {x = whole d} {y = whole e} (omega arith) (refl≤ (frac l 15))) (refl≤ (rate l)))
-    (trans≤ (same (sym≈ (addition-untested l e))) (by-ceil (exactDepthAddition l e) .above))))
+addition-rises l d e h = ceil-under (depthAddition l e) (trans≤ (exact-addition-rises l d e h) (by-ceil (exactDepthAddition l e) .above))
 
 pub reduction-falls : (l d e : ℕ) (ratio : Frac) → d ≤ e → depthReduction l e ratio ≤ depthReduction l d ratio
 unfolding depthReduction
-reduction-falls l d e ratio h =
-    floor-mono (exactDepthReduction l e ratio) (exactDepthReduction l d ratio)
-    (trans≤ (same (reduction-untested l e ratio))
-    (trans≤ (*-mono≤ (*-mono≤ (sub-mono {z = whole d} {w = whole e} (refl≤ (frac l 15)) (omega arith)) (refl≤ (rate l))) (refl≤ ratio))
-    (same (sym≈ (reduction-untested l d ratio)))))
+reduction-falls l d e ratio h = floor-mono (exactDepthReduction l e ratio) (exactDepthReduction l d ratio) (exact-reduction-falls l d e ratio h)
 
 -- so what is added less what is taken rises with D: a difference on either side, written with neither below zero
 pub deeper-never-less : (l d e : ℕ) (ratio : Frac) → d ≤ e → depthAddition l d + depthReduction l e ratio ≤ depthAddition l e + depthReduction l d ratio

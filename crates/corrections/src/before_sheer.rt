@@ -3,7 +3,7 @@ ghost use mathlib.Core.Path.{_≡_};
 ghost use Prim.Native.Nat.{_+_, _^_, _≤_};
 ghost use Rattle.whole.specs.Pick.{pick};
 ghost use Rattle.corrections.specs.Short29.{shortB};
-ghost use Rattle.corrections.specs.Fullness30.{fullness};
+ghost use Rattle.corrections.specs.Gathered.{madeFull};
 use crate::fullness;
 use crate::short;
 use units::Effective;
@@ -31,7 +31,7 @@ pub fn made_full(
     effective: Effective,
 ) -> Freeboard
     requires { ⌜ (table .0 ≤ 6000000) × (24000 ≤ length .0) × (length .0 ≤ 365000) × (cb ≤ 12000) ⌝ }
-    ensures { λ r. ⌜ r .0 ≡ fullness cb (table .0 + pick b (shortB (length .0) (effective .0)) 0) ⌝ }
+    ensures { λ r. ⌜ r .0 ≡ madeFull (table .0) b (length .0) cb (effective .0) ⌝ }
     ensures { λ r. ⌜ r .0 ≤ 2 ^ 24 ⌝ }
 {
     fullness::corrected(cb, with_short(table, b, length, effective))

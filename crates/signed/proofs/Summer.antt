@@ -1,38 +1,49 @@
 -- Demand 2's exact value is 01's formula worked with signed fractions and then held to the floor.
 use Prim.Native.Nat.{_+_, _≤_}
 use native.Mathlib.Omega.{arith}
-use Rattle.whole.specs.Frac.{_+f_, _*f_, whole, frac}
+use Rattle.whole.specs.Frac.{Frac, _+f_, _*f_, whole, frac}
 use Rattle.units.specs.Datum.{lift, sheerAt}
 use Rattle.percentages.specs.Table37.{ordinaryRow}
 use Rattle.ship.specs.declared.Ship.{Ship}
 use Rattle.ship.specs.Vessel.{housesOf}
 use Rattle.houses.specs.Length.{partOf}
+use Rattle.houses.specs.Height.{heightRatio}
 use Rattle.houses.specs.Effective.{exactEffective}
 use Rattle.houses.proofs.Counted.{covered-most}
 use Rattle.corrections.specs.Fullness30.{counted}
+use Rattle.corrections.specs.Depth31.{exactDepthAddition, exactDepthReduction}
 use Rattle.corrections.specs.Gathered as Before
 use Rattle.deduction.specs.Deduction37.{exactDeducted}
 use Rattle.sheer.specs.Sheer as Sheer
 use Rattle.bow.specs.Bow as Bow
 use Rattle.mark.specs.Summer.{exactSummer}
-use Rattle.steps.specs.Steps.{Sound, typeB, coveredS, forecastleHouse, coverReach, basis}
+use Rattle.steps.specs.Steps.{Sound, typeB, coveredS, forecastleHouse, amidshipsHouse, coverReach, basis}
 use Rattle.steps.specs.Exact.{exactE, exactAddedTo, exactTakenFrom, exactBowOf, exactSummerOf}
-use Rattle.signed.specs.Signed.{_≈s_, plain, _-s_}
+use Rattle.signed.specs.Signed.{_≈s_, plain, _+s_, _-s_}
 use Rattle.signed.specs.Summer.{corrected, bowOf, signedSummerOf}
-use Rattle.signed.proofs.Laws.{refl≈s, trans≈s, +s-same, two-differences, held}
+use Rattle.signed.proofs.Laws.{refl≈s, trans≈s, +s-same, -s-same, two-differences, held}
+use Rattle.signed.proofs.Depth.{depth-signed}
 use Rattle.signed.proofs.Sheer.{sheer-signed}
 use Rattle.signed.proofs.Bow.{bow-signed}
 
+-- the table's sum, depth and the houses' deduction, gathered
+with-depth : (f a t d : Frac) → plain f +s (plain a -s plain t) -s plain d ≈s plain (f +f a) -s plain (t +f d)
+with-depth f a t d = omega arith
+
 -- S is at most L, so that 0.75-S/2L is above zero
 corrected-same : (x : Ship) → Sound x → corrected x ≈s plain (exactAddedTo x) -s plain (exactTakenFrom ordinaryRow x)
-unfolding corrected exactAddedTo exactTakenFrom
+unfolding corrected exactAddedTo exactTakenFrom Before.exactAdded
 corrected-same x k =
     let l = x .length .0 in
-    let a = Before.exactAdded (basis x .exact) (typeB x) l (x .depth .0) (counted (x .block)) (exactE x) in
+    let ratio = heightRatio l (amidshipsHouse x) in
+    let f = Before.exactMadeFull (basis x .exact) (typeB x) l (counted (x .block)) (exactE x) in
+    let a = exactDepthAddition l (x .depth .0) in
+    let t = exactDepthReduction l (x .depth .0) ratio in
     let d = exactDeducted (typeB x) ordinaryRow (exactEffective l (forecastleHouse x)) l (exactE x) in
     let s : coveredS x ≤ l = unfold coveredS in covered-most l (housesOf x) (k .good .houses) in
-    trans≈s (+s-same (refl≈s (plain a -s plain d)) (sheer-signed (x .sheer) l (coveredS x) (coverReach x) (omega (arith, k .good .length-least)) s))
-    (two-differences a d (Sheer.exactAdded (x .sheer) l (coveredS x)) (Sheer.exactDeducted (x .sheer) l (coveredS x) (coverReach x)))
+    let b = trans≈s (-s-same (+s-same (refl≈s (plain f)) (depth-signed l (x .depth .0) ratio)) (refl≈s (plain d))) (with-depth f a t d) in
+    trans≈s (+s-same b (sheer-signed (x .sheer) l (coveredS x) (coverReach x) (omega (arith, k .good .length-least)) s))
+    (two-differences (f +f a) (t +f d) (Sheer.exactAdded (x .sheer) l (coveredS x)) (Sheer.exactDeducted (x .sheer) l (coveredS x) (coverReach x)))
 
 pub signed-summer : (x : Ship) → Sound x → plain (exactSummerOf x) ≈s signedSummerOf x
 unfolding exactSummerOf exactSummer exactBowOf Bow.exactBow signedSummerOf bowOf

@@ -1,4 +1,4 @@
--- Sheer (38) and bow height (39) as 01 writes them, with signs: no difference stops at zero, and nothing is in two parts. Freeboards in um.
+-- Depth (31), sheer (38) and bow height (39) as the papers write them, with signs: no difference stops at zero, and nothing is in two parts. Freeboards in um.
 use Prim.Native.Nat.{ℕ, _*_}
 use mathlib.Core.Bool.{_&&_}
 use mathlib.Core.List.{List}
@@ -6,9 +6,16 @@ use Rattle.whole.specs.Pick.{pick}
 use Rattle.whole.specs.Frac.{Frac, _*f_, whole, frac}
 use Rattle.units.specs.declared.Ordinate.{Ordinate}
 use Rattle.units.specs.Datum.{lift, sheerAt}
+use Rattle.corrections.specs.Depth31.{rate}
 use Rattle.sheer.specs.Sheer.{standardAfter, standardForward}
 use Rattle.bow.specs.Bow.{hundreds, forecastleTaken}
 use Rattle.signed.specs.Signed.{Signed, plain, nil, _+s_, _-s_, _*s_, _÷s_, _≤s?_, _<s?_, mins}
+
+-- ---- 31: what depth adds is (D - L/15) R; below zero it counts in the ratio of heights of the house amidships
+unfoldable pub byDepth : ℕ → ℕ → Frac → Signed
+byDepth L D ratio =
+    let m = (plain (whole D) -s plain (frac L 15)) *s plain (rate L) in
+    pick (m <s? nil) (m *s plain ratio) m
 
 -- a ship's ordinate at place k, in mm
 unfoldable pub ordinate : List Ordinate → ℕ → Signed

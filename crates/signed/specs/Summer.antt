@@ -1,22 +1,24 @@
--- 01, "Steps to the summer mark", of a ship, with signs and no rounding. 38 and 39 are Formula.antt's; what needs no sign is the exact value of its own
--- regulation's crate. Freeboards in um, the mark in mm.
+-- 01, "Steps to the summer mark", with 02, of a ship, with signs and no rounding. 31, 38 and 39 are Formula.antt's; what needs no sign is the exact value of its
+-- own regulation's crate. Freeboards in um, the mark in mm.
 use Rattle.whole.specs.Frac.{whole, frac}
 use Rattle.percentages.specs.Table37.{ordinaryRow}
 use Rattle.ship.specs.declared.Ship.{Ship}
 use Rattle.houses.specs.Length.{partOf}
+use Rattle.houses.specs.Height.{heightRatio}
 use Rattle.houses.specs.Effective.{exactEffective}
 use Rattle.corrections.specs.Fullness30.{counted}
-use Rattle.corrections.specs.Gathered.{exactAdded}
+use Rattle.corrections.specs.Gathered.{exactMadeFull}
 use Rattle.deduction.specs.Deduction37.{exactDeducted}
-use Rattle.steps.specs.Steps.{typeB, coveredS, forecastleHouse, coverReach, basis}
+use Rattle.steps.specs.Steps.{typeB, coveredS, forecastleHouse, amidshipsHouse, coverReach, basis}
 use Rattle.steps.specs.Exact.{exactE}
 use Rattle.signed.specs.Signed.{Signed, plain, _+s_, _-s_, _*s_, maxs}
-use Rattle.signed.specs.Formula.{mean, bySheer, bow}
+use Rattle.signed.specs.Formula.{byDepth, mean, bySheer, bow}
 
--- the corrected value: the table (28) with 29 to 31, less the houses' deduction (37), and what sheer (38) adds or deducts
+-- the corrected value: the table (28) with 29 and 30, what depth (31) adds or takes, less the houses' deduction (37), and what sheer (38) adds or deducts
 unfoldable pub corrected : Ship → Signed
 corrected x =
-    plain (exactAdded (basis x .exact) (typeB x) (x .length .0) (x .depth .0) (counted (x .block)) (exactE x))
+    plain (exactMadeFull (basis x .exact) (typeB x) (x .length .0) (counted (x .block)) (exactE x))
+    +s byDepth (x .length .0) (x .depth .0) (heightRatio (x .length .0) (amidshipsHouse x))
     -s plain (exactDeducted (typeB x) ordinaryRow (exactEffective (x .length .0) (forecastleHouse x)) (x .length .0) (exactE x))
     +s bySheer (mean (x .sheer) (x .length .0)) (x .length .0) (coveredS x) (coverReach x)
 

@@ -2,14 +2,12 @@
 -- `summer-parts` ties it to the steps: nobody needs to believe this page.
 use Prim.Native.Nat.{ℕ, _+_, _-_}
 use mathlib.Core.List.{List}
-use Rattle.whole.specs.Pick.{pick}
 use Rattle.whole.specs.Frac.{frac}
 use Rattle.units.specs.declared.Ratio.{Ratio}
 use Rattle.units.specs.declared.Unrounded.{Unrounded}
 use Rattle.percentages.specs.Table37.{ordinaryRow}
-use Rattle.corrections.specs.Short29.{shortB}
-use Rattle.corrections.specs.Fullness30.{fullness}
 use Rattle.corrections.specs.Depth31.{depthReduction}
+use Rattle.corrections.specs.Gathered.{madeFull}
 use Rattle.deduction.specs.Deduction37.{deducted}
 use Rattle.sheer.specs.Sheer as Sheer
 use Rattle.bow.specs.Bow.{forecastleTaken}
@@ -20,7 +18,7 @@ use Rattle.hull.specs.declared.Hull.{Hull}
 
 -- with E and what sheer adds
 unfoldable pub addedOn : Hull → ℕ → ℕ → ℕ
-addedOn h e lacking = fullness (h .block) (h .basis .line .0 + pick (h .b) (shortB (h .length .0) e) 0) + h .deep .0 + lacking
+addedOn h e lacking = madeFull (h .basis .line .0) (h .b) (h .length .0) (h .block) e + h .deep .0 + lacking
 
 -- with the ratio of heights of the house amidships, the forecastle's effective length, E and what sheer deducts
 unfoldable pub takenOn : List ℕ → Hull → Ratio → Unrounded → ℕ → ℕ → ℕ

@@ -71,7 +71,14 @@ pub fn summer_on(h: Hull, d: Deck) -> u64
     let e = summed::effective_length(d.effective);
     let c = sheer_correction::correct(h.mean, l, d.s, d.reach);
     let gained = added(h, e, c.added);
-    let lost = taken(Row::Ordinary, h, d.amidships, forecastle.effective, e, c.deducted);
+    let lost = taken(
+        Row::Ordinary,
+        h,
+        d.amidships,
+        forecastle.effective,
+        e,
+        c.deducted,
+    );
     let bow = bow::freeboard(h.bow, l, forecastle.part, forecastle.height);
     mark::summer(h.basis.floor, gained, lost, bow)
 }

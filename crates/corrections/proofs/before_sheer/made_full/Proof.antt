@@ -1,10 +1,12 @@
 -- What the two steps promise, one after the other.
 use borrow.Author.Needs.{needs}
 use native.Mathlib.Omega.{arith}
+use Rattle.corrections.specs.Gathered.{madeFull}
 use Rattle.corrections.proofs.before_sheer.made_full.Statement.{statement}
 use Rattle.corrections.proofs.before_sheer.made_full.Tie as tie
 
 pub made-full-spec : {M : Type 1} → statement M
+unfolding madeFull
 made-full-spec =
     tie.close
     (tie.spec

@@ -4,11 +4,11 @@ use lib.Dec.{ltb}
 use Rattle.whole.specs.Pick.{pick}
 use Rattle.whole.specs.Frac.{Frac, _<f?_, _-f_, _*f_, whole, frac, ceil, floor}
 
--- R = L / 0.48 below 120 m, 250 from 120 m
+-- 31(1): R = L / 0.48 below 120 m, 250 from 120 m
 unfoldable pub rate : ℕ → Frac
 rate l = pick (ltb l 120000) (frac l 480) (whole 250)
 
--- ---- what is added, if D > L / 15
+-- ---- 31(1): what is added, if D > L / 15
 unfoldable pub exactDepthAddition : ℕ → ℕ → Frac
 exactDepthAddition l d = pick (frac l 15 <f? whole d) ((whole d -f frac l 15) *f rate l) (whole 0)
 
@@ -16,7 +16,7 @@ exactDepthAddition l d = pick (frac l 15 <f? whole d) ((whole d -f frac l 15) *f
 unfoldable pub depthAddition : ℕ → ℕ → ℕ
 depthAddition l d = ceil (exactDepthAddition l d)
 
--- ---- 31(3), with 02 §4: what is taken, if D < L / 15, at the same rate and in the ratio of heights of the house amidships; the ratio of no house is 0
+-- ---- 31(2) and (3), with 02 §4: what is taken, if D < L / 15, at the same rate, and in the ratio of heights of the house amidships; 0 is the ratio of none
 unfoldable pub exactDepthReduction : ℕ → ℕ → Frac → Frac
 exactDepthReduction l d ratio = pick (whole d <f? frac l 15) ((frac l 15 -f whole d) *f rate l *f ratio) (whole 0)
 

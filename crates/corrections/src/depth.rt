@@ -6,6 +6,7 @@ ghost use Rattle.corrections.specs.Depth31.{depthAddition, depthReductio
 use units::Freeboard;
 use units::Ratio;
 use units::Span;
+use whole::less;
 use whole::mul_div_down;
 use whole::mul_div_up;
 
@@ -35,14 +36,15 @@ pub fn reduction(length: Span, depth: Span, ratio: Ratio) -> Freeboard
     let d = depth.0;
     let top = ratio.top;
     let bottom = ratio.bottom;
-    if l <= 15 * d {
+    let lacking = less(l, 15 * d); // in fifteenths of a millimetre
+    if lacking == 0 {
         return Freeboard(0);
     }
     if top == 0 {
         return Freeboard(0);
     }
     if l < 120000 {
-        return Freeboard(mul_div_down((l - 15 * d) * l, top, 7200 * bottom));
+        return Freeboard(mul_div_down(lacking * l, top, 7200 * bottom));
     }
-    Freeboard(mul_div_down((l - 15 * d) * 250, top, 15 * bottom))
+    Freeboard(mul_div_down(lacking * 250, top, 15 * bottom))
 }

@@ -1,4 +1,4 @@
--- Every figure of the two tables is what the definitions give: a claim for each table, by computing.
+-- Every figure of the table is what the definitions give: one claim, by computing.
 use lib.Dec.{T}
 use Rattle.whole.specs.Pick as Pick
 use Rattle.whole.specs.Divide as Divide
@@ -15,6 +15,7 @@ use Rattle.houses.specs.Length as Length
 use Rattle.houses.specs.Height as Height
 use Rattle.houses.specs.Effective as Effective
 use Rattle.houses.specs.Forecastle as Forecastle
+use Rattle.houses.specs.Amidships as Amidships
 use Rattle.houses.specs.Cover as Cover
 use Rattle.corrections.specs.Short29 as Short29
 use Rattle.corrections.specs.Fullness30 as Fullness30
@@ -31,7 +32,6 @@ use Rattle.marks.specs.Marks as Marks
 use Rattle.trial.specs.Poop as Poop
 use Rattle.question.specs.Question as Question
 use Rattle.figures.specs.Figures.{k1, k2, bowHeight, marksRow, askedRow, house, figures, agree, allAgree}
-use Rattle.figures.specs.Requests.{requests}
 
 -- what a figure computes through
 unfoldable pub Tools : Type 0
@@ -43,15 +43,15 @@ unfolding Fields.pack Fields.piece Fields.unpack Fields.number Layout.houseIn La
 Reader = Unit {0}
 
 unfoldable pub Houses : Type 0
-unfolding Length.partOf Length.total Length.coveredLength Height.ordinaryHeight Height.raisedHeight Height.standardHeight Effective.limitedLength Effective.exactEffective Effective.exactEffectiveLength Effective.those Effective.effectiveLength Forecastle.houseThat Forecastle.isForecastle Forecastle.forecastleOf Cover.isAmidships Cover.reachOf Cover.reach
+unfolding Length.partOf Length.total Length.coveredLength Height.ordinaryHeight Height.raisedHeight Height.standardHeight Height.heightRatio Effective.limitedLength Effective.exactEffective Effective.exactEffectiveLength Effective.those Effective.effectiveLength Forecastle.houseThat Forecastle.isForecastle Forecastle.forecastleOf Amidships.coversAmidships Amidships.amidshipsOf Cover.isAmidships Cover.reachOf Cover.reach
 Houses = Unit {0}
 
 unfoldable pub Corrections : Type 0
-unfolding Short29.exactShortB Short29.shortB Fullness30.exactFullness Fullness30.fullness Depth31.rate Depth31.exactDepthAddition Depth31.depthAddition Deduction37.exactFull Deduction37.full Deduction37.exactShare Deduction37.share Deduction37.ofFull Deduction37.deduction Deduction37.lacksForecastle Gathered.added Deduction37.deducted Sheer.afterSum Sheer.forwardSum Sheer.unit Sheer.standardAfter Sheer.standardForward Sheer.above Sheer.lacks Sheer.afterCounts Sheer.forwardShare Sheer.meanAbove Sheer.meanLacks Sheer.exactExcess Sheer.exactDeficiency Sheer.excess Sheer.deficiency Sheer.exactAddition Sheer.exactDeduction Sheer.addition Sheer.deduction Sheer.added Sheer.deducted Bow.hundreds Bow.exactB1 Bow.rises Bow.falls Bow.exactB2Above Bow.exactB2Below Bow.b2Above Bow.b2Below Bow.higher Bow.lower Bow.sheerTaken Bow.forecastleTaken Bow.bowFreeboard
+unfolding Short29.exactShortB Short29.shortB Fullness30.exactFullness Fullness30.fullness Depth31.rate Depth31.exactDepthAddition Depth31.depthAddition Depth31.exactDepthReduction Depth31.depthReduction Deduction37.exactFull Deduction37.full Deduction37.exactShare Deduction37.share Deduction37.ofFull Deduction37.deduction Deduction37.lacksForecastle Gathered.madeFull Gathered.added Deduction37.deducted Sheer.afterSum Sheer.forwardSum Sheer.unit Sheer.standardAfter Sheer.standardForward Sheer.above Sheer.lacks Sheer.afterCounts Sheer.forwardShare Sheer.meanAbove Sheer.meanLacks Sheer.exactExcess Sheer.exactDeficiency Sheer.excess Sheer.deficiency Sheer.exactAddition Sheer.exactDeduction Sheer.addition Sheer.deduction Sheer.added Sheer.deducted Bow.hundreds Bow.exactB1 Bow.rises Bow.falls Bow.exactB2Above Bow.exactB2Below Bow.b2Above Bow.b2Below Bow.higher Bow.lower Bow.sheerTaken Bow.forecastleTaken Bow.bowFreeboard
 Corrections = Unit {0}
 
 unfoldable pub Marking : Type 0
-unfolding Summer.exactSummer Summer.summerMark Others.tropical Others.winter Others.atlantic Others.allowance Others.sixMarks Others.sheetAt Basis.basisOf Steps.coveredS Steps.effectiveE Steps.forecastleHouse Steps.coverReach Steps.addedTo Steps.takenFrom Steps.bowOf Steps.summerOf Steps.particularsOf Marks.sheetIn
+unfolding Summer.exactSummer Summer.summerMark Others.tropical Others.winter Others.atlantic Others.allowance Others.sixMarks Others.sheetAt Basis.basisOf Steps.coveredS Steps.effectiveE Steps.forecastleHouse Steps.amidshipsHouse Steps.coverReach Steps.addedTo Steps.takenFrom Steps.bowOf Steps.summerOf Steps.particularsOf Marks.sheetIn
 Marking = Unit {0}
 
 unfoldable pub Asking : Type 0
@@ -61,8 +61,3 @@ Asking = Unit {0}
 pub claim : T (allAgree figures)
 unfolding k1 k2 bowHeight marksRow askedRow house figures agree allAgree Tools Reader Houses Corrections Marking Asking
 claim = tt
-
--- and every figure of 02
-pub claim-02 : T (allAgree requests)
-unfolding house requests agree allAgree Tools Houses
-claim-02 = tt

@@ -1,4 +1,4 @@
--- 31, with 02 §4: the house amidships. In tenths of a mm 0.2 L and 0.8 L are whole.
+-- 31(2), with 02 §4: the house amidships. In tenths of a mm 0.2 L and 0.8 L are whole.
 use Prim.Native.Nat.{ℕ, _+_, _*_}
 use mathlib.Core.Bool.{Bool, _&&_}
 use mathlib.Core.List.{List}

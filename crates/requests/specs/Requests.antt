@@ -1,0 +1,44 @@
+-- 02: the figures that its requests and their readings state, in the same form. A row has the request's number.
+use Prim.Native.Nat.{ℕ}
+use mathlib.Core.List.{List, [], _∷_}
+use Rattle.ship.specs.declared.House.{House}
+use Rattle.record.specs.Layout.{shipIn}
+use Rattle.houses.specs.Height.{heightRatio}
+use Rattle.houses.specs.Effective.{effectiveLength}
+use Rattle.houses.specs.Amidships.{amidshipsOf}
+use Rattle.corrections.specs.Depth31.{depthReduction}
+use Rattle.steps.specs.Steps.{summerOf}
+use Rattle.trial.specs.Poop.{withPoop}
+use Rattle.question.specs.Question.{Reply, replyIn}
+use Rattle.figures.specs.Figures.{Row, one, askedRow, house}
+
+-- ---- §4: what depth takes, of a list of houses
+abbrev pub depthTakes : ℕ → ℕ → List House → ℕ
+depthTakes l d hs = depthReduction l d (heightRatio l (amidshipsOf l hs))
+
+-- a record with L 120 m, D = M = 7000 and a forecastle, asked for a poop of 2300 mm
+unfoldable pub r4 : List ℕ
+r4 =
+    0x14 ∷ 0x40 ∷ 0x1d ∷ 0x4c ∷ 0x01 ∷ 0xb5 ∷ 0x81 ∷ 0xb5 ∷ 0x86 ∷ 0xa4 ∷ 0x1f ∷ 0x40 ∷ 0x13 ∷ 0x88 ∷ 0x22 ∷ 0xb0 ∷ 0x23 ∷ 0x01 ∷ 0x18 ∷ 0x11
+    ∷ 0x58 ∷ 0x9c ∷ 0x40 ∷ 0x00 ∷ 0x00 ∷ 0x00 ∷ 0x00 ∷ 0x83 ∷ 0x5b ∷ 0x60 ∷ 0x1d ∷ 0x4c ∷ 0x04 ∷ 0x7e ∷ 0x00 ∷ []
+
+abbrev pub asked4 : ℕ → Reply
+asked4 wish = replyIn r4 2300 wish
+
+-- ---- the table. The questions stand last: each search goes over more than 900 lengths
+unfoldable pub requests : List Row
+requests =
+    one 2 (effectiveLength 100000 (house 0 10001 1000 ∷ house 20000 30002 1000 ∷ house 95000 100000 1000 ∷ [])) 12196585
+    ∷ one 4 (depthTakes 90212 5000 (house 18000 90112 1001 ∷ [])) 97734
+    ∷ one 4 (depthTakes 120000 7000 (house 24000 96000 2250 ∷ [])) 250000
+    ∷ one 4 (depthTakes 120000 7000 (house 24000 96000 1125 ∷ [])) 125000
+    ∷ one 4 (depthTakes 120000 7000 (house 24001 96000 2250 ∷ [])) 0
+    ∷ one 4 (depthTakes 120000 8000 (house 24000 96000 2250 ∷ [])) 0
+    ∷ one 4 (depthTakes 120000 7999 (house 24000 96000 2250 ∷ [])) 250
+    ∷ one 4 (summerOf (withPoop 2300 959 (shipIn r4))) 785
+    ∷ one 4 (summerOf (withPoop 2300 960 (shipIn r4))) 534
+    ∷ askedRow 4 (asked4 785) (0 ∷ 0 ∷ 959 ∷ [])
+    ∷ askedRow 4 (asked4 784) (0 ∷ 0 ∷ 960 ∷ [])
+    ∷ askedRow 4 (asked4 534) (0 ∷ 0 ∷ 960 ∷ [])
+    ∷ askedRow 4 (asked4 533) (0 ∷ 0 ∷ 961 ∷ [])
+    ∷ []

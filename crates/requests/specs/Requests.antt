@@ -16,7 +16,7 @@ use Rattle.figures.specs.Figures.{Row, one, askedRow, house}
 abbrev pub depthTakes : ℕ → ℕ → List House → ℕ
 depthTakes l d hs = depthReduction l d (heightRatio l (amidshipsOf l hs))
 
--- a record with L 120 m, D = M = 7000 and a forecastle, asked for a poop of 2300 mm
+-- sample/low.record: L 120 m, D = M = 7000 and a forecastle; asked for a poop of 2300 mm
 unfoldable pub r4 : List ℕ
 r4 =
     0x14 ∷ 0x40 ∷ 0x1d ∷ 0x4c ∷ 0x01 ∷ 0xb5 ∷ 0x81 ∷ 0xb5 ∷ 0x86 ∷ 0xa4 ∷ 0x1f ∷ 0x40 ∷ 0x13 ∷ 0x88 ∷ 0x22 ∷ 0xb0 ∷ 0x23 ∷ 0x01 ∷ 0x18 ∷ 0x11

@@ -50,14 +50,32 @@ fn linear(x: &Fraction, points: &[(Fraction, Fraction)]) -> Fraction {
 /// The exact summer freeboard and its two sources.
 pub fn exact(ship: &Ship) -> Exact {
     let l = over(ship.length, 1000);
-    let d = over(ship.depth, 1000);
-    let enclosed = || ship.houses.iter().filter(|house| house.enclosed);
-    let forecastle = enclosed().find(|house| house.fore >= ship.length);
-    let s: Fraction = enclosed().map(|house| plain_length(house, &l)).sum();
-    let e: Fraction = enclosed().map(|house| effective_length(house, &l)).sum();
-    let cb = over(ship.cb.min(10_000), 10_000); // 30
+    let s: Fraction = enclosed(ship).map(|house| plain_length(house, &l)).sum();
+    let e: Fraction = enclosed(ship).map(|house| effective_length(house, &l)).sum();
+    let full = (tabular(ship, &l) + short_b_addition(ship, &l, &e)) * fullness(ship);
+    let deep = full + depth_correction(ship, &l);
+    let corrected = deep - houses_deduction(ship, &l, &e) - sheer_deduction(ship, &l, &s);
+    let bow = bow_freeboard(ship, &l);
+    // 40
+    let summer = corrected.clone().max(bow.clone()).max(whole(50));
+    Exact { effective: e, corrected, bow, summer }
+}
 
-    // 28
+fn enclosed(ship: &Ship) -> impl Iterator<Item = &House> {
+    ship.houses.iter().filter(|house| house.enclosed)
+}
+
+fn forecastle(ship: &Ship) -> Option<&House> {
+    enclosed(ship).find(|house| house.fore >= ship.length)
+}
+
+/// 30: never above 1.0.
+fn limited_cb(ship: &Ship) -> Fraction {
+    over(ship.cb.min(10_000), 10_000)
+}
+
+/// 28
+fn tabular(ship: &Ship, l: &Fraction) -> Fraction {
     let rows = match ship.kind {
         Kind::A => &table28::TYPE_A,
         Kind::B => &table28::TYPE_B,
@@ -66,65 +84,84 @@ pub fn exact(ship: &Ship) -> Exact {
     let points: Vec<_> = (row..table28::ROWS.min(row + 2))
         .map(|i| (whole((table28::FIRST + i) as i64), whole(rows[i])))
         .collect();
-    let mut freeboard = linear(&l, &points);
+    linear(l, &points)
+}
 
-    // 29
-    if ship.kind == Kind::B && l < whole(100) && e < over(35, 100) * &l {
-        freeboard = freeboard + over(75, 10) * (whole(100) - &l) * (over(35, 100) - &e / &l);
-    }
-
-    // 30
-    if cb > over(68, 100) {
-        freeboard = freeboard * (&cb + over(68, 100)) / over(136, 100);
-    }
-
-    // 31
-    let fifteenth = &l / whole(15);
-    if d > fifteenth {
-        let r = if l < whole(120) { &l / over(48, 100) } else { whole(250) };
-        freeboard = freeboard + (d - fifteenth) * r;
-    }
-
-    // 37
-    let long_enough =
-        forecastle.is_some_and(|house| effective_length(house, &l) >= over(7, 100) * &l);
-    if ship.kind == Kind::A || long_enough {
-        let full = [(24, 350), (85, 860), (122, 1070)].map(|(at, mm)| (whole(at), whole(mm)));
-        let share = [0, 70, 140, 210, 310, 410, 520, 630, 753, 877, 1000];
-        let share: Vec<_> =
-            (0..).zip(share).map(|(tenth, mille)| (over(tenth, 10), over(mille, 1000))).collect();
-        freeboard = freeboard - linear(&l, &full) * linear(&(&e / &l), &share);
-    }
-
-    // 38
-    let mean = mean_excess_of_sheer(&ship.sheer, &l);
-    let by_factor = &mean * (over(3, 4) - &s / (whole(2) * &l));
-    let corrected = if mean.is_negative() {
-        freeboard - by_factor
+/// 29
+fn short_b_addition(ship: &Ship, l: &Fraction, e: &Fraction) -> Fraction {
+    if ship.kind == Kind::B && *l < whole(100) && *e < over(35, 100) * l {
+        over(75, 10) * (whole(100) - l) * (over(35, 100) - e / l)
     } else {
-        freeboard - (by_factor * cover(ship, &l)).min(over(125, 100) * &l)
-    };
+        whole(0)
+    }
+}
 
-    // 39
-    let x = &l / whole(100);
+/// 30: what the sum so far is multiplied by.
+fn fullness(ship: &Ship) -> Fraction {
+    let cb = limited_cb(ship);
+    if cb > over(68, 100) {
+        (cb + over(68, 100)) / over(136, 100)
+    } else {
+        whole(1)
+    }
+}
+
+/// 31: what is added, negative if the depth is below L/15 and a house amidships earns a reduction.
+fn depth_correction(ship: &Ship, l: &Fraction) -> Fraction {
+    let r = if *l < whole(120) { l / over(48, 100) } else { whole(250) };
+    let correction = (over(ship.depth, 1000) - l / whole(15)) * r;
+    if !correction.is_negative() {
+        return correction;
+    }
+    let (from, to) = (over(2, 10) * l, over(8, 10) * l);
+    enclosed(ship)
+        .find(|house| over(house.aft, 1000) <= from && over(house.fore, 1000) >= to)
+        .map_or(whole(0), |house| correction * ratio_of_heights(house, l))
+}
+
+/// 37
+fn houses_deduction(ship: &Ship, l: &Fraction, e: &Fraction) -> Fraction {
+    let long_enough =
+        forecastle(ship).is_some_and(|house| effective_length(house, l) >= over(7, 100) * l);
+    if ship.kind == Kind::B && !long_enough {
+        return whole(0);
+    }
+    let full = [(24, 350), (85, 860), (122, 1070)].map(|(at, mm)| (whole(at), whole(mm)));
+    let share = [0, 70, 140, 210, 310, 410, 520, 630, 753, 877, 1000];
+    let share: Vec<_> =
+        (0..).zip(share).map(|(tenth, mille)| (over(tenth, 10), over(mille, 1000))).collect();
+    linear(l, &full) * linear(&(e / l), &share)
+}
+
+/// 38(14) to (16): what is deducted, negative if the sheer is deficient.
+fn sheer_deduction(ship: &Ship, l: &Fraction, s: &Fraction) -> Fraction {
+    let mean = mean_excess_of_sheer(&ship.sheer, l);
+    let by_factor = &mean * (over(3, 4) - s / (whole(2) * l));
+    if mean.is_negative() {
+        by_factor
+    } else {
+        (by_factor * cover(ship, l)).min(over(125, 100) * l)
+    }
+}
+
+/// 39
+fn bow_freeboard(ship: &Ship, l: &Fraction) -> Fraction {
+    let x = l / whole(100);
     let b1 = whole(6075) * &x - whole(1875) * &x * &x + whole(200) * &x * &x * &x;
     let d1 = over(85, 100) * over(ship.moulded, 1000);
-    let b2 = over(208, 100) + over(609, 1000) * &cb
+    let b2 = over(208, 100) + over(609, 1000) * limited_cb(ship)
         - over(1603, 1000) * over(ship.cwf, 10_000)
-        - over(129, 10_000) * &l / d1;
+        - over(129, 10_000) * l / d1;
     let mut bow = b1 * b2;
     if ship.sheer[4] > 0 {
         bow = bow - whole(ship.sheer[5]);
     }
-    if let Some(house) = forecastle {
-        if plain_length(house, &l) >= over(7, 100) * &l {
+    if let Some(house) = forecastle(ship) {
+        if plain_length(house, l) >= over(7, 100) * l {
             bow = bow - whole(house.height);
         }
     }
-
-    // 40
-    let summer = corrected.clone().max(bow.clone()).max(whole(50));
-    Exact { effective: e, corrected, bow, summer }
+    bow
 }
 
 /// 34: the part between the perpendiculars, m.
@@ -132,15 +169,20 @@ fn plain_length(house: &House, l: &Fraction) -> Fraction {
     over(house.fore, 1000).min(l.clone()) - over(house.aft, 1000).max(whole(0))
 }
 
-/// 33 and 35: effective length, m.
-fn effective_length(house: &House, l: &Fraction) -> Fraction {
+/// 33: height over standard height, at most 1.
+fn ratio_of_heights(house: &House, l: &Fraction) -> Fraction {
     let points: &[(i64, i64)] = match house.quarterdeck {
         true => &[(30, 900), (75, 1200), (125, 1800)],
         false => &[(75, 1800), (125, 2300)],
     };
     let points: Vec<_> = points.iter().map(|&(at, mm)| (whole(at), whole(mm))).collect();
-    let ratio = (whole(house.height) / linear(l, &points)).min(whole(1));
+    (whole(house.height) / linear(l, &points)).min(whole(1))
+}
+
+/// 35: effective length, m.
+fn effective_length(house: &House, l: &Fraction) -> Fraction {
     let length = plain_length(house, l);
+    let ratio = ratio_of_heights(house, l);
     match house.quarterdeck {
         true => length.min(over(6, 10) * l) * ratio,
         false => length * ratio,
@@ -177,10 +219,7 @@ fn mean_excess_of_sheer(sheer: &[i64; 6], l: &Fraction) -> Fraction {
 fn cover(ship: &Ship, l: &Fraction) -> Fraction {
     let middle = l / whole(2);
     let most = l / whole(10);
-    let reaches: Fraction = ship
-        .houses
-        .iter()
-        .filter(|house| house.enclosed)
+    let reaches: Fraction = enclosed(ship)
         .map(|house| (over(house.aft, 1000), over(house.fore, 1000)))
         .filter(|(aft, fore)| *aft <= middle && *fore >= middle)
         .map(|(aft, fore)| (fore - &middle).min(most.clone()) + (&middle - aft).min(most.clone()))

@@ -50,8 +50,10 @@ pub struct Steps {
     pub short_b: i64,
     /// Table and addition for short B ships, after regulation 30.
     pub fullness: i64,
-    /// Regulation 31.
+    /// Regulation 31(1).
     pub depth: i64,
+    /// Regulation 31(2) and (3).
+    pub depth_reduction: i64,
     /// Regulation 37.
     pub deduction: i64,
     /// Regulation 38: mean excess of sheer, negative if deficient.
@@ -113,11 +115,12 @@ pub fn steps(ship: &Ship) -> Steps {
     let short_b = short_b_addition(ship.kind, length, effective);
     let fullness = after_fullness(ship, table + short_b);
     let depth = depth_addition(length, ship.depth);
+    let depth_reduction = depth_reduction(ship, length);
     let deduction = houses_deduction(ship, length, effective, forecastle);
     let sheer_mean = mean_excess_of_sheer(&ship.sheer, length);
     let cover_reach = cover_reach(ship, length);
     let (sheer_added, sheer_deducted) = sheer_correction(sheer_mean, length, covered, cover_reach);
-    let corrected = fullness + depth - deduction + sheer_added - sheer_deducted;
+    let corrected = fullness + depth - depth_reduction - deduction + sheer_added - sheer_deducted;
     let bow_height = bow_height(ship, length);
     let bow = bow_height - bow_credit(ship, forecastle);
     let summer = up(corrected.max(bow), 1000).max(50);
@@ -129,6 +132,7 @@ pub fn steps(ship: &Ship) -> Steps {
         short_b,
         fullness,
         depth,
+        depth_reduction,
         deduction,
         sheer_mean,
         cover_reach,
@@ -220,13 +224,34 @@ fn after_fullness(ship: &Ship, freeboard: i64) -> i64 {
     }
 }
 
-/// Regulation 31: (D - L/15) R, up, where D is above L/15.
+/// Regulation 31(1): (D - L/15) R, up, where D is above L/15.
 pub fn depth_addition(length: i64, depth: i64) -> i64 {
     let excess = (15 * depth - length).max(0); // fifteenths of a mm
     if length < 120_000 {
         up(excess * length, 7_200)
     } else {
         up(excess * 50, 3)
+    }
+}
+
+/// Regulation 31(2) and (3): (L/15 - D) R, where D is below L/15 and one enclosed house covers all
+/// of 0.2 L to 0.8 L; in the ratio of heights if that house is low; down.
+fn depth_reduction(ship: &Ship, length: i64) -> i64 {
+    let lack = length - 15 * ship.depth; // fifteenths of a mm
+    if lack <= 0 {
+        return 0;
+    }
+    let amidships = |house: &House| 5 * house.aft <= length && 5 * house.fore >= 4 * length;
+    let Some((_, house)) = enclosed(ship).find(|(_, house)| amidships(house)) else {
+        return 0;
+    };
+    let (standard, parts) = standard_height(house.quarterdeck, length);
+    let height = (house.height as i64 * parts).min(standard);
+    if length < 120_000 {
+        // 1.1e5 x 1.2e5 x 4.4e5: below 5.9e15.
+        down(lack * length * height, 7_200 * standard)
+    } else {
+        down(lack * 50 * height, 3 * standard)
     }
 }
 

@@ -1,5 +1,6 @@
 //! Random ships from a seed, the same ones on every machine.
 
+use crate::marks::standard_height;
 use crate::record::{House, RawShip};
 
 /// A small generator (splitmix64).
@@ -34,10 +35,46 @@ impl Random {
         from[self.between(0, from.len() as i64 - 1) as usize]
     }
 
+    /// A valid ship with `n` houses, one time in three a low one.
+    pub fn any_ship(&mut self, n: usize) -> RawShip {
+        if self.once_in(3) {
+            self.low_ship(n)
+        } else {
+            self.ship(n)
+        }
+    }
+
     /// A valid ship with `n` houses: borders of the rules often, anything else besides.
     pub fn ship(&mut self, n: usize) -> RawShip {
         loop {
             let raw = self.attempt(n);
+            if raw.check().is_ok() {
+                return raw;
+            }
+        }
+    }
+
+    /// A valid ship with `n` houses and D below L/15, seldom at it. Most often a house stands from
+    /// about 0.2 L to about 0.8 L or beyond; the bow height seldom decides, lest it hide what that is
+    /// worth.
+    pub fn low_ship(&mut self, n: usize) -> RawShip {
+        loop {
+            let mut raw = self.attempt(n);
+            if self.once_in(4) {
+                // L/15, 0.2 L and 0.8 L are whole mm, and 0.8 L is whole dm.
+                raw.length -= raw.length % 375;
+            }
+            let length = raw.length as i64;
+            raw.depth = self.low_depth(length) as u64;
+            if !self.once_in(6) {
+                self.lower_bow(&mut raw);
+            }
+            let houses = &mut raw.houses[..n];
+            match n {
+                0 => {}
+                _ if self.once_in(6) => self.put_row(houses, length * 4 / 5, length, length),
+                _ => self.put_amidships(houses, length),
+            }
             if raw.check().is_ok() {
                 return raw;
             }
@@ -106,16 +143,97 @@ impl Random {
         }
     }
 
+    /// A depth below L/15, often by little, and at times at it.
+    fn low_depth(&mut self, length: i64) -> i64 {
+        let most = (length - 1) / 15;
+        let depth = match self.between(1, 6) {
+            1 => most + self.between(-2, 1),
+            2 => self.between(1_000, most),
+            _ => most * self.between(70, 100) / 100,
+        };
+        depth.max(1_000)
+    }
+
+    /// Asks for less bow height, and gives sheer for it.
+    fn lower_bow(&mut self, raw: &mut RawShip) {
+        raw.moulded = self.between(1_000, 2_500) as u64;
+        raw.cwf = self.between(8_500, 10_000) as u64;
+        if self.once_in(2) {
+            raw.sheer[4] = raw.sheer[4].max(1);
+            raw.sheer[5] = self.between(2_000, 8_191);
+        }
+    }
+
+    /// A house about 0.2 L to 0.8 L or longer, at times two that touch there; others abaft and before.
+    fn put_amidships(&mut self, houses: &mut [House], length: i64) {
+        let n = houses.len();
+        let count = if n > 1 && self.once_in(8) { 2 } else { 1 };
+        let place = self.between(0, (n - count) as i64) as usize;
+        let (abaft, rest) = houses.split_at_mut(place);
+        let (middle, before) = rest.split_at_mut(count);
+        let aft = match self.between(1, 4) {
+            1 | 2 if abaft.is_empty() => -self.between(0, 2_000),
+            3 => length / 5 + self.between(-2, 2),
+            _ => self.between(1, length / 5),
+        };
+        // 0.8 L up to whole mm.
+        let end = length - length / 5;
+        let fore = match self.between(1, 4) {
+            1 if before.is_empty() => length + self.between(0, 2_000),
+            2 => end + self.between(-2, 2),
+            _ => self.between(end, length - 1),
+        };
+        self.put_row(abaft, 0, aft, length);
+        self.put_row(before, fore, length, length);
+        let cut = self.between(length / 5, end);
+        for house in middle.iter_mut() {
+            *house = self.middle_house(aft, fore, length);
+        }
+        if let [first, second] = middle {
+            (first.fore, second.aft) = (cut, cut);
+        }
+    }
+
+    /// A house from `aft` to `fore`, often about its standard height or lower.
+    fn middle_house(&mut self, aft: i64, fore: i64, length: i64) -> House {
+        let enclosed = !self.once_in(12);
+        let quarterdeck = enclosed && aft <= 0 && fore < length && !self.once_in(3);
+        let (standard, parts) = standard_height(quarterdeck, length);
+        let standard = standard / parts;
+        let height = match self.between(1, 6) {
+            1 => standard + self.between(-1, 1),
+            2 => self.between(1, 8_191),
+            3 => self.between(1, standard),
+            _ => self.between(standard / 2, standard * 5 / 4),
+        };
+        House { enclosed, quarterdeck, aft, fore, height: height as u64 }
+    }
+
+    /// Houses in order between two stations; some touch, some stand at one of them.
+    fn put_row(&mut self, houses: &mut [House], from: i64, to: i64, length: i64) {
+        let mut cuts: Vec<i64> = (0..2 * houses.len()).map(|_| self.between(from, to)).collect();
+        if let [first, .., last] = &mut cuts[..] {
+            *first = if self.once_in(3) { from } else { *first };
+            *last = if self.once_in(2) { to } else { *last };
+        }
+        self.put_between(houses, cuts, length);
+    }
+
     /// Houses in order between cuts of the deck; some touch, some stand at a border.
     fn put_houses(&mut self, houses: &mut [House], length: i64) {
         let borders =
             [-20_000, 0, length / 10, length / 2, length * 6 / 10, length * 93 / 100, length];
-        let mut cuts: Vec<i64> = (0..2 * houses.len())
+        let cuts = (0..2 * houses.len())
             .map(|_| match self.between(1, 4) {
                 1 => self.pick(&borders),
                 _ => self.between(-2_000, length + 2_000),
             })
             .collect();
+        self.put_between(houses, cuts, length);
+    }
+
+    /// Houses between two cuts each.
+    fn put_between(&mut self, houses: &mut [House], mut cuts: Vec<i64>, length: i64) {
         cuts.sort_unstable();
         for (i, house) in houses.iter_mut().enumerate() {
             let touching = i > 0 && self.once_in(4);

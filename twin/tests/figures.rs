@@ -1,4 +1,5 @@
-//! The figures k1 to k12, E of three houses, and the figures that go with the readings of open points.
+//! The figures k1 to k12, E of three houses, the reduction for depth, and the figures that go with the
+//! readings of open points.
 
 mod common;
 
@@ -51,6 +52,42 @@ fn k8_depth() {
     assert_eq!(marks::depth_addition(100_000, 6_667), 70);
     assert_eq!(marks::depth_addition(100_000, 8_000), 277_778);
     assert_eq!(marks::depth_addition(120_000, 8_001), 250);
+}
+
+/// The reduction for depth of k1 with this length, depth and one house.
+fn reduction(length: u64, depth: u64, house: House) -> i64 {
+    steps(&ship(&with(RawShip { length, depth, ..k1() }, &[house]))).depth_reduction
+}
+
+/// Rounded once, after the ratio of heights.
+#[test]
+fn reduction_by_a_low_house() {
+    assert_eq!(reduction(90_212, 5_000, house(18_000, 90_112, 1_001)), 97_734);
+}
+
+#[test]
+fn reduction_at_120_m() {
+    let of = |depth, aft, height| reduction(120_000, depth, house(aft, 96_000, height));
+    assert_eq!(of(7_000, 24_000, 2_250), 250_000);
+    assert_eq!(of(7_000, 24_000, 1_125), 125_000);
+    assert_eq!(of(7_000, 24_001, 2_250), 0);
+    assert_eq!(of(8_000, 24_000, 2_250), 0);
+    assert_eq!(of(7_999, 24_000, 2_250), 250);
+}
+
+/// L 120 m, D and M 7 m, a forecastle: the poop earns the reduction from 0.8 L on.
+#[test]
+fn reduction_by_a_poop() {
+    let hex = "14401d4c01b581b586a41f40138822b023011811589c4000000000835b601d4c047e00";
+    let digits = (0..hex.len()).step_by(2).map(|i| u8::from_str_radix(&hex[i..i + 2], 16));
+    let record: Vec<u8> = digits.collect::<Result<_, _>>().unwrap();
+    let ship = twin::record::read(&record).unwrap();
+    assert_eq!((ship.length, ship.depth, ship.moulded), (120_000, 7_000, 7_000));
+    let mark = |k| summer_with_poop(&ship, 2_300, k).unwrap();
+    assert_eq!([959, 960].map(mark), [785, 534]);
+    for (wish, k) in [(785, 959), (784, 960), (534, 960), (533, 961)] {
+        assert_eq!(shortest_poop(&record, 2_300, wish), Ok(k));
+    }
 }
 
 #[test]

@@ -153,6 +153,82 @@ fn cover_amidships() {
     assert_eq!(reach(&[house(0, 90_000, 1)]), 180_000);
 }
 
+/// k1 of this length with these houses, and D as little below L/15 as can be.
+fn low(length: u64, houses: &[House]) -> RawShip {
+    with(RawShip { length, depth: (length - 1) / 15, ..k1() }, houses)
+}
+
+fn reduction(raw: &RawShip) -> i64 {
+    steps(&ship(raw)).depth_reduction
+}
+
+/// 0.2 L and 0.8 L as they are, with no rounding to mm.
+#[test]
+fn ends_of_the_house_amidships() {
+    for (length, last, first) in
+        [(100_000, 20_000, 80_000), (100_001, 20_000, 80_001), (100_004, 20_000, 80_004)]
+    {
+        let earns = |aft, fore| reduction(&low(length, &[house(aft, fore, 2_300)])) > 0;
+        assert!(earns(last, first) && earns(last - 1, first) && earns(last, first + 1));
+        assert!(!earns(last + 1, first) && !earns(last, first - 1));
+        assert!(earns(-20_000, length as i64 + 20_000));
+    }
+}
+
+/// One enclosed house, wherever it stands in the list; those that touch do not join.
+#[test]
+fn one_house_amidships() {
+    let of = |houses: &[House]| reduction(&low(120_000, houses));
+    let all = of(&[house(0, 120_000, 2_250)]);
+    assert_eq!(all, 250);
+    let middle = house(20_000, 100_000, 2_250);
+    assert_eq!(of(&[house(0, 20_000, 1), middle, house(100_000, 120_000, 1)]), all);
+    assert_eq!(of(&[House { enclosed: false, ..middle }]), 0);
+    assert_eq!(of(&[house(0, 60_000, 2_250), house(60_000, 120_000, 2_250)]), 0);
+    assert_eq!(of(&[house(0, 24_001, 2_250), house(24_001, 120_000, 2_250)]), 0);
+    assert_eq!(of(&[]), 0);
+}
+
+/// The ratio of heights by the house's own standard height: 2250 mm at 120 m, 1740 for a quarterdeck.
+#[test]
+fn height_of_the_house_amidships() {
+    let of = |house| reduction(&RawShip { depth: 1_000, ..low(120_000, &[house]) });
+    let ordinary = |height| of(house(0, 100_000, height));
+    let deck = |height| of(House { quarterdeck: true, ..house(0, 100_000, height) });
+    assert_eq!([2_249, 2_250, 8_191].map(ordinary), [1_749_222, 1_750_000, 1_750_000]);
+    assert_eq!([1_739, 1_740, 8_191].map(deck), [1_748_994, 1_750_000, 1_750_000]);
+    assert_eq!((ordinary(1_740), ordinary(1), deck(1)), (1_353_333, 777, 1_005));
+}
+
+/// Added above L/15, taken below it, neither at it.
+#[test]
+fn depth_about_a_fifteenth() {
+    let of = |length, depth| {
+        let raw = RawShip { length, depth, ..k1() };
+        let steps = steps(&ship(&with(raw, &[house(0, length as i64, 2_300)])));
+        (steps.depth, steps.depth_reduction)
+    };
+    assert_eq!([5_999, 6_000, 6_001].map(|d| of(90_000, d)), [(0, 187), (0, 0), (188, 0)]);
+    assert_eq!([9_999, 10_000, 10_001].map(|d| of(150_000, d)), [(0, 250), (0, 0), (250, 0)]);
+    // L/15 is 6666 2/3 mm.
+    assert_eq!([6_666, 6_667].map(|d| of(100_000, d)), [(0, 138), (70, 0)]);
+    // R is L/0.48 below 120 m: 249.998 at 119.999 m.
+    assert_eq!([119_999, 120_000, 120_001].map(|l| of(l, 6_000).1), [499_979, 500_000, 500_016]);
+}
+
+/// The reduction comes off the freeboard after 30, however little is left.
+#[test]
+fn freeboard_below_zero() {
+    let of = |depth| {
+        let raw = RawShip { kind: 0, length: 300_000, depth, cb: 9_000, ..k1() };
+        steps(&ship(&with(raw, &[house(0, 300_000, 2_300)])))
+    };
+    let (none, low) = (of(20_000), of(1_000));
+    assert_eq!((none.depth_reduction, low.depth_reduction), (0, 4_750_000));
+    assert_eq!(none.corrected - low.corrected, 4_750_000);
+    assert!(none.corrected > 0 && low.corrected < 0);
+}
+
 /// The mean is rounded toward minus infinity. Standard sums at 90 m: 2668 and 5336 mm.
 #[test]
 fn sheer_halves() {
@@ -169,6 +245,19 @@ fn sheer_halves() {
     assert_eq!(mean(1_334, 5_344), -83_375);
     assert_eq!(mean(0, 5_344), -166_750);
     assert_eq!(mean(1_667, 5_344), -62_313); // -62562.5 + 500 x 1332/2668
+}
+
+/// The greatest product of the reduction, on both sides of 120 m.
+#[test]
+fn greatest_reductions_fit() {
+    for (length, height) in [(24_000, 1_799), (119_999, 2_249), (124_999, 2_299), (365_000, 8_191)]
+    {
+        for quarterdeck in [false, true] {
+            let middle = House { quarterdeck, ..house(0, length - 1, height) };
+            let raw = RawShip { length: length as u64, depth: 1_000, ..k1() };
+            assert!(bound_holds(&ship(&with(raw, &[middle]))), "{length}");
+        }
+    }
 }
 
 /// Ships at the ends of every range: a product that does not fit ends the test.

@@ -4,7 +4,7 @@ mod common;
 
 use common::{house, k1, k2, packed, ship, with};
 use twin::marks::marks;
-use twin::question::shortest_poop;
+use twin::question::{shortest_poop, summer_with_poop};
 use twin::random::Random;
 use twin::record::{read, RawShip};
 use twin::refusal::Refusal;
@@ -46,14 +46,35 @@ fn unfit_ships_only_make_a_length_unfit() {
     assert!(shortest_poop(&packed(&shallow), 1_950, 60_000).is_ok_and(|k| k > 0));
 }
 
+/// The poop is the house amidships from 100k = 0.8 L on, at its own height.
+#[test]
+fn poop_amidships() {
+    let of = |length, height| {
+        let raw = RawShip { kind: 0, length, depth: 6_000, moulded: 1_000, ..k1() };
+        (0..=length as i64 / 100).map(move |k| summer_with_poop(&ship(&raw), height, k).unwrap())
+    };
+    for (length, first) in [(120_000, 960), (119_999, 960), (120_001, 961), (120_124, 961)] {
+        let (whole, half): (Vec<_>, Vec<_>) =
+            (of(length, 2_300).collect(), of(length, 1_125).collect());
+        let drop = |marks: &[i64], k: usize| marks[k - 1] - marks[k];
+        assert!((490..=505).contains(&drop(&whole, first)), "{length}");
+        assert!((245..=255).contains(&drop(&half, first)), "{length}");
+        // Nowhere else.
+        let others = (1..whole.len()).filter(|&k| k != first);
+        assert!(others.into_iter().all(|k| drop(&whole, k) < 5 && drop(&half, k) < 5), "{length}");
+    }
+}
+
 /// Against a search that writes each longer ship out as a record and reads it anew.
 #[test]
 fn agrees_with_a_search_over_records() {
     let mut random = Random::new(33);
     let mut answers = [0; 3];
-    while answers.iter().sum::<i32>() < 60 {
+    // Answers beyond 0.8 L where D is below L/15.
+    let mut amidships = 0;
+    while answers.iter().sum::<i32>() < 120 {
         let n = random.between(0, 3) as usize;
-        let raw = RawShip { kind: random.between(0, 1) as u64, ..random.ship(n) };
+        let raw = RawShip { kind: random.between(0, 1) as u64, ..random.any_ship(n) };
         if raw.length > 60_000 || raw.houses[..n].first().is_some_and(|house| house.aft <= 0) {
             continue;
         }
@@ -78,7 +99,10 @@ fn agrees_with_a_search_over_records() {
                 None => assert_eq!(answer, refused(16, 0)),
             }
             answers[found.map_or(2, |k| (k > 0) as usize)] += 1;
+            let reaches = found.is_some_and(|k| 500 * k as u64 >= 4 * raw.length);
+            amidships += i32::from(reaches && 15 * raw.depth < raw.length);
         }
     }
+    assert!(amidships > 0);
     assert!(answers.iter().all(|&count| count > 0), "{answers:?}");
 }

@@ -37,18 +37,23 @@ fn main() -> ExitCode {
 
 fn compare(program: &str, count: u64, seed: u64) -> Result<String, String> {
     let mut random = Random::new(seed);
-    let (mut ships, mut given, mut most) = (0, 0, 0.0f64);
+    let (mut ships, mut given, mut reduced, mut most) = (0, 0, 0, 0.0f64);
     while ships < count {
         let n = random.between(0, 8) as usize;
-        let Ok(ship) = random.ship(n).check() else { continue };
+        let Ok(ship) = random.any_ship(n).check() else { continue };
         let mut record = vec![0; record::record_bytes(ship.houses.len())];
         record::pack(&mut record, &ship.raw());
         let line = run(program, &record).map_err(|error| format!("{program}: {error}"))?;
         ships += 1;
-        given += u64::from(line.starts_with('S'));
+        let has_marks = line.starts_with('S');
+        given += u64::from(has_marks);
+        reduced += u64::from(has_marks && marks::steps(&ship).depth_reduction > 0);
         most = most.max(judge(&ship, &line).map_err(|why| format!("{why}: {}", hex(&record)))?);
     }
-    Ok(format!("{ships} ships, {given} with marks, S above exact by at most {most:.3} um"))
+    Ok(format!(
+        "{ships} ships, {given} with marks, {reduced} of them with a reduction for depth, \
+         S above exact by at most {most:.3} um"
+    ))
 }
 
 fn run(program: &str, record: &[u8]) -> io::Result<String> {

@@ -72,20 +72,22 @@ fn exact_lines(ship: &Ship) -> String {
 /// The bound on the summer mark over random ships, and the largest costs seen.
 fn check(count: u64, seed: u64) -> String {
     let mut random = Random::new(seed);
-    let (mut ships, mut broken) = (0, 0);
+    let (mut ships, mut reduced, mut broken) = (0, 0, 0);
     let (mut mark, mut before) = (0.0f64, 0.0f64);
     for _ in 0..count {
         let n = random.between(0, 8) as usize;
-        let Ok(ship) = random.ship(n).check() else { continue };
+        let Ok(ship) = random.any_ship(n).check() else { continue };
         let cost = exact::cost(&ship);
         let above = [cost.mark, cost.summer, cost.corrected, cost.bow].iter().all(|&um| um >= 0.0);
         ships += 1;
+        reduced += u64::from(marks::steps(&ship).depth_reduction > 0);
         broken += u64::from(!above || !exact::bound_holds(&ship));
         mark = mark.max(cost.mark);
         before = before.max(cost.summer);
     }
     format!(
-        "{ships} ships, {broken} broken, mark above exact by at most {mark:.3} um, \
+        "{ships} ships, {reduced} with a reduction for depth, {broken} broken, \
+         mark above exact by at most {mark:.3} um, \
          before the round-up by at most {before:.3} um"
     )
 }

@@ -25,7 +25,7 @@ const LEAST_WISH: u64 = 50;
 /// Ships of 0 to 8 houses.
 pub fn ships() -> Vec<Input> {
     let mut random = Random::new(1966);
-    (0..SHIPS).map(|i| Input::new(random.ship(i % 9), LEAST_WISH)).collect()
+    (0..SHIPS).map(|i| Input::new(random.any_ship(i % 9), LEAST_WISH)).collect()
 }
 
 /// Ships whose wish a poop of 1 to 10 dm meets, and none shorter.

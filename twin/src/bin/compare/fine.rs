@@ -1,7 +1,7 @@
 //! Ships with low houses whose freeboard stands at a whole mm or one um above it: there one um of a
-//! step may show in the mark. Other ships hardly ever show a um of E.
+//! step may show in the mark. Other ships hardly ever show a um of E or of the reduction for depth.
 
-use twin::marks::{self, standard_height};
+use twin::marks::{self, standard_height, Steps};
 use twin::random::Random;
 use twin::record::{House, RawShip, Ship, MAX_HOUSES};
 
@@ -9,18 +9,20 @@ use twin::record::{House, RawShip, Ship, MAX_HOUSES};
 const TRIES: usize = 2_000;
 
 /// The ship with `n` houses, or with a poop besides: then also the height and the mark to ask for.
+/// One in three is below L/15 with a house amidships, which may be the poop.
 pub fn ship(random: &mut Random, n: usize) -> (RawShip, Option<(u64, u64)>) {
+    let shallow = random.once_in(3);
     // E is worth most to a short ship.
     let longest = random.pick(&[30_000, 365_000]);
     loop {
-        let mut raw = random.ship(n);
+        let mut raw = if shallow { random.low_ship(n) } else { random.ship(n) };
         if raw.length > longest {
             continue;
         }
         put_low_houses(random, &mut raw);
         let Ok(ship) = raw.check() else { continue };
-        let poop = poop(random, &ship);
-        if let Some(fine) = tuned(random, with(&ship, poop)) {
+        let poop = poop(random, &ship, shallow);
+        if let Some(fine) = tuned(random, with(&ship, poop), shallow) {
             (raw.depth, raw.cb) = (fine.depth as u64, fine.cb as u64);
             let mark = marks::steps(&fine).summer as u64;
             return (raw, poop.map(|poop| (poop.height, mark)));
@@ -49,13 +51,24 @@ fn low(random: &mut Random, quarterdeck: bool, length: i64) -> u64 {
     random.between(standard / parts / 2, standard / parts - 1) as u64
 }
 
-/// At times a poop that leads to a short search, if there is room for one.
-fn poop(random: &mut Random, ship: &Ship) -> Option<House> {
+/// At times a poop that leads to a short search, if there is room for one. On a shallow ship it may
+/// reach 0.8 L; that search is short enough on a short ship.
+fn poop(random: &mut Random, ship: &Ship, shallow: bool) -> Option<House> {
     let room = ship.houses.first().map_or(ship.length, |first| first.aft) / 100;
-    let fore = 100 * random.between(1, 20.min(room.max(1)));
+    let reach = shortest_amidships(ship.length) + random.between(0, 2);
+    let amidships = shallow && ship.length <= 30_000 && reach <= room;
+    let fore = match amidships {
+        true => 100 * reach,
+        false => 100 * random.between(1, 20.min(room.max(1))),
+    };
     let height = low(random, false, ship.length);
-    let fits = ship.houses.len() < MAX_HOUSES && room > 0 && random.once_in(2);
+    let fits = ship.houses.len() < MAX_HOUSES && room > 0 && (amidships || random.once_in(2));
     fits.then_some(House { enclosed: true, quarterdeck: false, aft: 0, fore, height })
+}
+
+/// The shortest poop that reaches 0.8 L, dm.
+pub fn shortest_amidships(length: i64) -> i64 {
+    (4 * length + 499) / 500
 }
 
 fn with(ship: &Ship, poop: Option<House>) -> Ship {
@@ -64,14 +77,31 @@ fn with(ship: &Ship, poop: Option<House>) -> Ship {
 }
 
 /// The ship with a depth and a fullness for which the freeboard is as wanted.
-fn tuned(random: &mut Random, mut ship: Ship) -> Option<Ship> {
+fn tuned(random: &mut Random, mut ship: Ship, shallow: bool) -> Option<Ship> {
     let fifteenth = ship.length / 15;
+    let (least, most) = match shallow {
+        true => (fifteenth * 2 / 3, (ship.length - 1) / 15),
+        false => (fifteenth, 2 * fifteenth),
+    };
+    // A ship that does not show it at the least depth is not worth the tries.
+    ship.depth = least.max(1_000);
+    if shallow && !reduction_shows(&marks::steps(&ship)) {
+        return None;
+    }
     let fine = (0..TRIES).any(|_| {
-        ship.depth = random.between(fifteenth, 2 * fifteenth).clamp(1_000, 60_000);
+        ship.depth = random.between(least, most).clamp(1_000, 60_000);
         ship.cb = random.between(6_800, 10_000);
         let steps = marks::steps(&ship);
         let freeboard = steps.corrected.max(steps.bow);
-        freeboard > 50_000 && freeboard % 1000 <= 1 && marks::marks(&ship).is_ok()
+        freeboard > 50_000
+            && freeboard % 1000 <= 1
+            && (!shallow || reduction_shows(&steps))
+            && marks::marks(&ship).is_ok()
     });
     fine.then_some(ship)
+}
+
+/// The reduction for depth is there, and the bow height does not hide it.
+fn reduction_shows(steps: &Steps) -> bool {
+    steps.depth_reduction > 0 && steps.corrected > steps.bow
 }

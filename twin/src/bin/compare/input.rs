@@ -50,7 +50,7 @@ pub struct Input {
 impl Input {
     pub fn draw(random: &mut Random) -> Input {
         let n = random.between(0, MAX_HOUSES as i64) as usize;
-        let raw = random.ship(n);
+        let raw = random.any_ship(n);
         let pattern = random.number();
         let mut input = Input {
             kind: Kind::Valid,
@@ -187,6 +187,9 @@ fn asked(random: &mut Random, record: &[u8]) -> (u64, u64) {
         Ok(ship) if !no_room(&ship) => ship,
         _ => return any,
     };
+    if earns_by_poop(&ship) && random.once_in(4) {
+        return asked_amidships(random, &ship);
+    }
     // The mark that a poop of up to so many dm gives, if it gives any.
     let hit = |random: &mut Random, most: i64| {
         let mark = question::summer_with_poop(&ship, height, random.between(0, most));
@@ -199,4 +202,22 @@ fn asked(random: &mut Random, record: &[u8]) -> (u64, u64) {
         51..=65 => hit(random, ship.length / 100),
         _ => hit(random, 20),
     }
+}
+
+/// D is below L/15, and a poop can reach 0.8 L.
+fn earns_by_poop(ship: &Ship) -> bool {
+    let room = ship.houses.first().map_or(ship.length, |first| first.aft);
+    15 * ship.depth < ship.length && 100 * fine::shortest_amidships(ship.length) <= room
+}
+
+/// A wish that a poop about 0.8 L meets, or that one just fails.
+fn asked_amidships(random: &mut Random, ship: &Ship) -> (u64, u64) {
+    let height = match random.between(1, 4) {
+        1 => random.between(1, 8_191),
+        2 => random.between(2_200, 2_400),
+        _ => random.between(900, 2_300),
+    } as u64;
+    let k = fine::shortest_amidships(ship.length) + random.between(-1, 1);
+    let mark = question::summer_with_poop(ship, height, k);
+    (height, mark.map_or(60_000, |mark| (mark - random.between(0, 1)).max(50) as u64))
 }

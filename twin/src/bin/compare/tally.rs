@@ -1,6 +1,9 @@
-//! What was compared, and how often each refusal was seen.
+//! What was compared, how often a reduction for depth was in it, and how often each refusal was seen.
 
 use std::fmt;
+
+use twin::marks;
+use twin::record;
 
 use crate::frame::Answer;
 use crate::input::{Input, Kind};
@@ -15,6 +18,8 @@ pub struct Tally {
     kinds: [u64; 5],
     /// Calls made and accepted, in the order of `CALLS`.
     calls: [(u64, u64); CALLS.len()],
+    /// Marks with a reduction for depth, and poops that earn one.
+    reductions: (u64, u64),
     /// By number, from 1.
     refusals: [u64; REFUSALS],
 }
@@ -38,6 +43,17 @@ impl Tally {
                 self.refusals[refusal as usize - 1] += 1;
             }
         }
+        self.add_reductions(input, answer);
+    }
+
+    fn add_reductions(&mut self, input: &Input, answer: &Answer) {
+        let Ok(ship) = record::read(input.record()) else { return };
+        let reduced = answer.marks[0] == 0 && marks::steps(&ship).depth_reduction > 0;
+        self.reductions.0 += u64::from(reduced);
+        // No answer is 0 dm.
+        let poop = 100 * answer.poop[2] as i64;
+        let earned = 15 * ship.depth < ship.length && 5 * poop >= 4 * ship.length;
+        self.reductions.1 += u64::from(earned);
     }
 
     /// The lowest refusal that was never seen.
@@ -58,11 +74,33 @@ impl fmt::Display for Tally {
             (1..).zip(self.refusals).map(|(number, seen)| format!("{number}: {seen}")).collect();
         write!(
             f,
-            "{} inputs, no difference: {}; {}; refusals {}",
+            "{} inputs, no difference: {}; {}; \
+             {} marks with a reduction for depth, {} poops that earn one; refusals {}",
             self.inputs,
             kinds.join(", "),
             calls.join(", "),
+            self.reductions.0,
+            self.reductions.1,
             refusals.join(", ")
         )
+    }
+}
+
+#[cfg(test)]
+mod tests {
+    use super::*;
+    use crate::judge;
+    use twin::random::Random;
+
+    #[test]
+    fn reductions_are_drawn() {
+        let mut random = Random::new(31);
+        let mut tally = Tally::default();
+        for _ in 0..4_000 {
+            let input = Input::draw(&mut random);
+            tally.add(&input, &judge::worked(&input));
+        }
+        let (marks, poops) = tally.reductions;
+        assert!(marks >= 250 && poops >= 10, "{tally}");
     }
 }

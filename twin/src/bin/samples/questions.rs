@@ -67,6 +67,8 @@ pub fn samples() -> Vec<Sample> {
     whole_length(&mut all);
     first_house(&mut all);
     sums(&mut all);
+    amidships(&mut all);
+    low_amidships(&mut all);
     numbers_asked(&mut all);
     no_room(&mut all);
     unfit_at_zero(&mut all);
@@ -180,6 +182,67 @@ fn sums(all: &mut Questions) {
     let short = RawShip { depth: 2_703, ..plain(1, 25_000) };
     let fore = house(20_000, 25_000, 1_500);
     all.ship("low-poop-at-25-m", Poop(60), 1_000, 227, &with(short, &[fore]));
+}
+
+/// 120 m, D below L/15, and a forecastle: from 0.8 L on the poop is the house amidships of 31(2).
+fn low(length: u64) -> RawShip {
+    let raw = RawShip {
+        kind: 1,
+        length,
+        depth: 7_000,
+        moulded: 7_000,
+        cb: 6_800,
+        cwf: 8_000,
+        sheer: [1250, 555, 140, 280, 1110, 2500],
+        ..RawShip::default()
+    };
+    with(raw, &[house(110_000, length as i64, 2_300)])
+}
+
+/// The mark drops at 0.8 L, from 785 to 534 at 120 m.
+fn amidships(all: &mut Questions) {
+    for (wish, k) in [(785, 959), (784, 960), (534, 960), (533, 961)] {
+        all.ship(&format!("low-ship-wish-{wish}"), Poop(k), 2_300, wish, &low(120_000));
+    }
+    // 0.8 L is 96000.8, 96080 and 96099.2 mm.
+    for length in [120_001, 120_100, 120_124] {
+        let raw = low(length);
+        let before = mark(&raw, 2_300, 960).expect("marks with a poop of 96 m");
+        let after = mark(&raw, 2_300, 961).expect("marks with a poop of 96.1 m");
+        let name = format!("low-ship-of-{length}");
+        all.ship(&format!("{name}-wish-{before}"), Poop(960), 2_300, before, &raw);
+        all.ship(&format!("{name}-wish-{}", before - 1), Poop(961), 2_300, before - 1, &raw);
+        all.ship(&format!("{name}-wish-{after}"), Poop(961), 2_300, after, &raw);
+    }
+    // The poop may touch the first house at 0.8 L, or cannot reach so far.
+    for (aft, expected) in [(96_000, Poop(960)), (95_999, Refused(16, 0))] {
+        let raw = with(low(120_000), &[house(aft, 120_000, 2_300)]);
+        all.ship(&format!("low-ship-first-house-at-{aft}"), expected, 2_300, 400, &raw);
+    }
+    let tanker = with(RawShip { kind: 0, moulded: 2_000, ..low(120_000) }, &[]);
+    let least = mark(&tanker, 2_300, 960).expect("marks with a poop of 96 m");
+    all.ship("low-ship-type-a", Poop(960), 2_300, least, &tanker);
+}
+
+/// A low poop earns less; one with another house amidships earns nothing more.
+fn low_amidships(all: &mut Questions) {
+    for height in [300, 700, 1_150, 2_249] {
+        let raw = low(120_000);
+        let least = mark(&raw, height, 960).expect("marks with a poop of 96 m");
+        let name = format!("low-ship-height-{height}-wish-{least}");
+        all.ship(&name, Poop(960), height, least, &raw);
+        let name = format!("low-ship-height-{height}-wish-{}", least - 1);
+        all.ship(&name, Longer, height, least - 1, &raw);
+    }
+    // The house amidships is there before the poop.
+    for (name, height) in [("standard", 2_250), ("low", 900)] {
+        let raw = with(low(120_000), &[house(5_000, 100_000, height), low(120_000).houses[0]]);
+        let none = mark(&raw, 2_300, 0).expect("marks without a poop");
+        let least = mark(&raw, 2_300, 50).expect("marks with a poop of 5 m");
+        all.ship(&format!("low-ship-{name}-house-no-poop"), Poop(0), 2_300, none, &raw);
+        all.ship(&format!("low-ship-{name}-house"), Longer, 2_300, least, &raw);
+        all.ship(&format!("low-ship-{name}-house-beyond"), Refused(16, 0), 2_300, least - 1, &raw);
+    }
 }
 
 /// Refusal 14 from both sides.
@@ -302,9 +365,19 @@ enum Slip {
     ZeroNeedsNoRoom,
     /// The poop's effective length is rounded by itself and added to E.
     PoopApart,
+    /// The poop is never the house amidships of 31(2).
+    PoopNeverAmidships,
+    /// The poop is that house only beyond 0.8 L.
+    PoopBeyondAmidships,
+    /// The poop is that house from 0.8 L down to dm.
+    PoopEarlyAmidships,
+    /// A low poop earns the whole reduction.
+    PoopWholeReduction,
+    /// With a poop no other house is the house amidships.
+    PoopAloneAmidships,
 }
 
-const SLIPS: [Slip; 12] = [
+const SLIPS: [Slip; 17] = [
     Slip::StopsAtRise,
     Slip::Halves,
     Slip::SkipsZero,
@@ -317,28 +390,49 @@ const SLIPS: [Slip; 12] = [
     Slip::Quarterdeck,
     Slip::ZeroNeedsNoRoom,
     Slip::PoopApart,
+    Slip::PoopNeverAmidships,
+    Slip::PoopBeyondAmidships,
+    Slip::PoopEarlyAmidships,
+    Slip::PoopWholeReduction,
+    Slip::PoopAloneAmidships,
 ];
+
+/// The slip in the marks that it comes to at this length.
+fn in_marks(slip: Slip, ship: &Ship, k: i64) -> Option<slips::Slip> {
+    let (poop, middle) = (500 * k, 4 * ship.length);
+    match slip {
+        Slip::PoopApart if k > 0 => Some(slips::Slip::EffectiveFirst),
+        Slip::PoopNeverAmidships if poop >= middle => Some(slips::Slip::ReductionNever),
+        Slip::PoopBeyondAmidships if poop == middle => Some(slips::Slip::ReductionNever),
+        Slip::PoopEarlyAmidships if k == middle / 500 => Some(slips::Slip::ReductionMiddle),
+        Slip::PoopWholeReduction if poop >= middle => Some(slips::Slip::ReductionWhole),
+        Slip::PoopAloneAmidships if k > 0 => Some(slips::Slip::ReductionFirst),
+        _ => None,
+    }
+}
+
+/// The mark with a poop of k dm, with a slip; nothing if it is unfit.
+fn mark_with(slip: Slip, ship: &Ship, height: u64, k: i64) -> Option<i64> {
+    let mut longer = ship.clone();
+    if k > 0 {
+        let quarterdeck = slip == Slip::Quarterdeck;
+        longer.houses = ship.houses.after(House { quarterdeck, ..house(0, 100 * k, height) });
+    }
+    record::check_houses(longer.length, &longer.houses).ok()?;
+    let touches = k > 0 && ship.houses.first().is_some_and(|first| first.aft == 100 * k);
+    if slip == Slip::NoTouching && touches {
+        return None;
+    }
+    if let Some(slip) = in_marks(slip, ship, k) {
+        return slips::marks(&longer, Some(slip)).ok().map(|marks| marks.summer);
+    }
+    let refused = marks::marks(&longer).is_err() && slip != Slip::TakesRefused;
+    (!refused).then(|| marks::steps(&longer).summer)
+}
 
 /// Refusals 12, 13, 15, 16 and the search, with a slip.
 fn search_with(slip: Slip, ship: &Ship, height: u64, wish: u64) -> Result<i64, Refusal> {
-    let mark = |k: i64| {
-        let mut longer = ship.clone();
-        if k > 0 {
-            let quarterdeck = slip == Slip::Quarterdeck;
-            longer.houses = ship.houses.after(House { quarterdeck, ..house(0, 100 * k, height) });
-        }
-        record::check_houses(longer.length, &longer.houses).ok()?;
-        let touches = k > 0 && ship.houses.first().is_some_and(|first| first.aft == 100 * k);
-        if slip == Slip::NoTouching && touches {
-            return None;
-        }
-        if slip == Slip::PoopApart && k > 0 {
-            let apart = slips::marks(&longer, Some(slips::Slip::EffectiveFirst));
-            return apart.ok().map(|marks| marks.summer);
-        }
-        let refused = marks::marks(&longer).is_err() && slip != Slip::TakesRefused;
-        (!refused).then(|| marks::steps(&longer).summer)
-    };
+    let mark = |k: i64| mark_with(slip, ship, height, k);
     let fits = |k: i64| match mark(k) {
         Some(mark) if slip == Slip::BelowWish => mark < wish as i64,
         Some(mark) => mark <= wish as i64,
@@ -357,26 +451,29 @@ fn search_with(slip: Slip, ship: &Ship, height: u64, wish: u64) -> Result<i64, R
         Slip::GoesBeyondLength => (ship.length + 99) / 100,
         _ => ship.length / 100,
     };
+    let mut lengths = 0..=last;
     match slip {
         Slip::RefusesShip => marks::marks(ship).map(|_| ())?,
+        Slip::SkipsZero => lengths = 1..=last,
         Slip::StopsAtRise => {
             let rises = |&k: &i64| matches!((mark(k - 1), mark(k)), (Some(a), Some(b)) if b > a);
-            let rise = (1..=last).find(rises).unwrap_or(last + 1);
-            return (0..rise).find(|&k| fits(k)).ok_or(nothing);
+            lengths = 0..=(1..=last).find(rises).map_or(last, |k| k - 1);
         }
-        Slip::Halves => {
-            let (mut low, mut high) = (0, last + 1);
-            while low < high {
-                let middle = (low + high) / 2;
-                match fits(middle) {
-                    true => high = middle,
-                    false => low = middle + 1,
-                }
-            }
-            return if low <= last { Ok(low) } else { Err(nothing) };
-        }
+        Slip::Halves => return halved(last, fits).ok_or(nothing),
         _ => {}
     }
-    let first = i64::from(slip == Slip::SkipsZero);
-    (first..=last).find(|&k| fits(k)).ok_or(nothing)
+    lengths.into_iter().find(|&k| fits(k)).ok_or(nothing)
+}
+
+/// The least length that fits, by halving the range again and again.
+fn halved(last: i64, fits: impl Fn(i64) -> bool) -> Option<i64> {
+    let (mut low, mut high) = (0, last + 1);
+    while low < high {
+        let middle = (low + high) / 2;
+        match fits(middle) {
+            true => high = middle,
+            false => low = middle + 1,
+        }
+    }
+    (low <= last).then_some(low)
 }

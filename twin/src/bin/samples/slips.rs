@@ -51,7 +51,7 @@ slips! {
     FullnessUnlimited 30 "Cb above 1.0 taken as it is",
     FullnessDown 30 "down",
     DepthNever 31 "no addition",
-    DepthBelow 31 "taken off where D is below L/15",
+    DepthBelow 31 "taken off below L/15 with no house amidships",
     DepthMoulded 31 "M in place of D",
     DepthSlope 31 "L/0.48 from 120 m",
     Depth250 31 "250 below 120 m",
@@ -138,6 +138,39 @@ slips! {
     EffectiveFirst 35 "first house down by itself though no quarterdeck",
     HouseAsDeck 35 "ordinary house added with the standard height of the quarterdeck",
     LimitEvery 35 "every house limited to 0.6 L",
+    ReductionNever 31 "no reduction",
+    ReductionAdded 31 "reduction added",
+    ReductionUp 31 "reduction up",
+    ReductionMm 31 "reduction down to mm",
+    ReductionTwice 31 "reduction down before the ratio of heights, too",
+    ReductionWhole 31 "reduction whole though the house is low",
+    ReductionHigh 31 "reduction greater for a high house",
+    ReductionHeightMm 31 "reduction by the standard height in whole mm",
+    ReductionDeckAsHouse 31 "reduction for a quarterdeck by the standard height of other houses",
+    ReductionHouseAsDeck 31 "reduction by the standard height of a quarterdeck",
+    ReductionNoDeck 31 "no reduction for a quarterdeck",
+    ReductionOpen 31 "reduction for a house not enclosed",
+    ReductionFirst 31 "reduction for the first house alone",
+    ReductionForecastle 31 "no reduction for a type B ship without a forecastle",
+    ReductionJoined 31 "reduction for houses that touch",
+    ReductionAftStrict 31 "house that begins at 0.2 L does not count",
+    ReductionForeStrict 31 "house that ends at 0.8 L does not count",
+    ReductionAftMm 31 "0.2 L up to mm",
+    ReductionForeMm 31 "0.8 L down to mm",
+    ReductionFifths 31 "0.8 L as four times 0.2 L in whole mm",
+    ReductionMiddle 31 "reduction for a house at 0.5 L",
+    ReductionAnywhere 31 "reduction for a house of 0.6 L anywhere",
+    ReductionCovered 31 "reduction where S is 0.6 L",
+    ReductionEffective 31 "reduction where E is 0.6 L",
+    ReductionFloor 31 "reduction never below zero freeboard",
+    ReductionAbove 31 "reduction in place of the addition with a house amidships",
+    ReductionMoulded 31 "reduction by M in place of D",
+    ReductionFifteenth 31 "reduction by L/15 in whole mm",
+    ReductionSlope 31 "reduction by L/0.48 from 120 m",
+    Reduction250 31 "reduction by 250 below 120 m",
+    ReductionAfterBow 31 "reduction taken after the bow height",
+    FullnessReduction 30 "applied to the reduction too",
+    SheerFloor 38 "freeboard never below zero before it",
 }
 
 fn down(number: i128, divisor: i128) -> i128 {
@@ -154,6 +187,17 @@ fn added((a, b): (i128, i128), (c, d): (i128, i128)) -> (i128, i128) {
         0 => (a + c * (b / d), b),
         _ => (a * d + c * b, b * d),
     }
+}
+
+/// Houses that touch made one, of the height of the first.
+fn join(houses: &mut Vec<House>) {
+    houses.dedup_by(|house, before| {
+        let touches = house.aft == before.fore;
+        if touches {
+            before.fore = house.fore;
+        }
+        touches
+    });
 }
 
 /// The marks, with a slip or none.
@@ -238,7 +282,10 @@ impl Working<'_> {
 
     fn summer(&self) -> i128 {
         let bow = if self.has(Slip::BowNever) { i128::MIN } else { self.bow() };
-        let freeboard = self.corrected().max(bow);
+        let freeboard = match self.has(Slip::ReductionAfterBow) {
+            true => self.corrected().max(bow) - self.reduction(),
+            false => self.corrected().max(bow),
+        };
         let mark = match self.slip {
             Some(Slip::MarkDown) => down(freeboard, 1000),
             Some(Slip::MarkNearest) => down(freeboard + 500, 1000),
@@ -357,18 +404,29 @@ impl Working<'_> {
 
     fn corrected(&self) -> i128 {
         let (covered, effective) = (self.covered(), self.effective_sum());
-        let depth = self.depth();
+        let (depth, reduction) = (self.depth(), self.reduction());
         let table = self.table();
         let short =
             self.short_b(if self.has(Slip::ShortCovered) { 1000 * covered } else { effective });
-        let fullness = match self.slip {
+        let added = match self.slip {
             Some(Slip::FullnessTable) => self.fullness(table) + short + depth,
             Some(Slip::FullnessDepth) => self.fullness(table + short + depth),
+            Some(Slip::FullnessReduction) => self.fullness(table + short - reduction) + depth,
             _ => self.fullness(table + short) + depth,
+        };
+        let reduced = match self.slip {
+            Some(Slip::FullnessReduction | Slip::ReductionAfterBow) => added,
+            Some(Slip::ReductionAdded) => added + reduction,
+            Some(Slip::ReductionFloor) => (added - reduction).max(0),
+            _ => added - reduction,
         };
         let deducted =
             self.deduction(if self.has(Slip::DeductCovered) { 1000 * covered } else { effective });
-        fullness - deducted
+        let freeboard = match self.has(Slip::SheerFloor) {
+            true => (reduced - deducted).max(0),
+            false => reduced - deducted,
+        };
+        freeboard
             + self.sheer(match self.slip {
                 Some(Slip::FactorPlain) => 0,
                 Some(Slip::FactorEffective) => effective,
@@ -415,14 +473,13 @@ impl Working<'_> {
         }
     }
 
-    /// 31
+    /// 31(1)
     fn depth(&self) -> i128 {
         let depth = if self.has(Slip::DepthMoulded) { self.ship.moulded } else { self.ship.depth };
-        let excess = 15 * i128::from(depth) - self.l;
         let excess = match self.slip {
             Some(Slip::DepthNever) => 0,
-            Some(Slip::DepthBelow) => excess,
-            _ => excess.max(0),
+            Some(Slip::ReductionAbove) if self.amidships().is_some() => 0,
+            _ => (15 * i128::from(depth) - self.l).max(0),
         };
         let sloping = match self.slip {
             Some(Slip::DepthSlope) => true,
@@ -433,6 +490,97 @@ impl Working<'_> {
             self.up(excess * self.l, 7_200, Slip::DepthDown)
         } else {
             self.up(excess * 50, 3, Slip::DepthDown)
+        }
+    }
+
+    /// 31(2) and (3)
+    fn reduction(&self) -> i128 {
+        let ship = self.ship;
+        let depth = if self.has(Slip::ReductionMoulded) { ship.moulded } else { ship.depth };
+        let lack = self.l - 15 * i128::from(depth);
+        let lack = match self.slip {
+            Some(Slip::ReductionNever) => 0,
+            Some(Slip::ReductionAbove) => lack.abs(),
+            Some(Slip::ReductionFifteenth) => (lack - self.l % 15).max(0),
+            Some(Slip::ReductionForecastle)
+                if ship.kind == Kind::B && self.forecastle().is_none() =>
+            {
+                0
+            }
+            _ => lack.max(0),
+        };
+        let Some((height, standard)) = self.amidships() else { return 0 };
+        let sloping = match self.slip {
+            Some(Slip::ReductionSlope) => true,
+            Some(Slip::Reduction250) => false,
+            _ => self.l < 120_000,
+        };
+        let (um, parts) = if sloping { (lack * self.l, 7_200) } else { (lack * 50, 3) };
+        match self.slip {
+            Some(Slip::ReductionMm) => 1000 * down(um * height, 1000 * parts * standard),
+            Some(Slip::ReductionTwice) => down(down(um, parts) * height, standard),
+            _ => self.down(um * height, parts * standard, Slip::ReductionUp),
+        }
+    }
+
+    /// Height over standard height of the house amidships, if there is one.
+    fn amidships(&self) -> Option<(i128, i128)> {
+        let Some(house) = self.house_amidships() else {
+            return self.has(Slip::DepthBelow).then_some((1, 1));
+        };
+        let (standard, parts) = self.standard(match self.slip {
+            Some(Slip::ReductionDeckAsHouse) => false,
+            Some(Slip::ReductionHouseAsDeck) => true,
+            _ => house.quarterdeck,
+        });
+        let (standard, parts) = match self.slip {
+            Some(Slip::ReductionHeightMm) => (standard / parts, 1),
+            _ => (standard, parts),
+        };
+        let height = match i128::from(house.height) * parts {
+            _ if self.has(Slip::ReductionWhole) => standard,
+            height if self.has(Slip::ReductionHigh) => height,
+            height => height.min(standard),
+        };
+        Some((height, standard))
+    }
+
+    /// The house from 0.2 L to 0.8 L.
+    fn house_amidships(&self) -> Option<House> {
+        let mut houses: Vec<House> = match self.has(Slip::ReductionOpen) {
+            true => self.ship.houses.to_vec(),
+            false => self.enclosed().copied().collect(),
+        };
+        match self.slip {
+            Some(Slip::ReductionJoined) => join(&mut houses),
+            Some(Slip::ReductionFirst) => houses.truncate(1),
+            Some(Slip::ReductionNoDeck) => houses.retain(|house| !house.quarterdeck),
+            _ => {}
+        }
+        // With either slip the longest house has the height that counts.
+        let long = match self.slip {
+            Some(Slip::ReductionCovered) => Some(5 * self.covered() >= 3 * self.l),
+            Some(Slip::ReductionEffective) => Some(self.effective_sum() >= 600 * self.l),
+            _ => None,
+        };
+        let longest = || houses.iter().max_by_key(|house| self.within(house));
+        match long {
+            Some(enough) => longest().filter(|_| enough).copied(),
+            None => houses.iter().find(|house| self.covers_middle(house)).copied(),
+        }
+    }
+
+    fn covers_middle(&self, house: &House) -> bool {
+        let (l, aft, fore) = (self.l, i128::from(house.aft), i128::from(house.fore));
+        match self.slip {
+            Some(Slip::ReductionAftStrict) => 5 * aft < l && 5 * fore >= 4 * l,
+            Some(Slip::ReductionForeStrict) => 5 * aft <= l && 5 * fore > 4 * l,
+            Some(Slip::ReductionAftMm) => aft <= up(l, 5) && 5 * fore >= 4 * l,
+            Some(Slip::ReductionForeMm) => 5 * aft <= l && fore >= down(4 * l, 5),
+            Some(Slip::ReductionFifths) => aft <= down(l, 5) && fore >= 4 * down(l, 5),
+            Some(Slip::ReductionMiddle) => 2 * aft <= l && 2 * fore >= l,
+            Some(Slip::ReductionAnywhere) => 5 * self.within(house) >= 3 * l,
+            _ => 5 * aft <= l && 5 * fore >= 4 * l,
         }
     }
 
@@ -531,13 +679,7 @@ impl Working<'_> {
         let middle = if self.has(Slip::CoverMmDown) { 10 * (l / 2) } else { 5 * l };
         let mut houses: Vec<House> = self.enclosed().copied().collect();
         if self.has(Slip::CoverJoined) {
-            houses.dedup_by(|house, before| {
-                let touches = house.aft == before.fore;
-                if touches {
-                    before.fore = house.fore;
-                }
-                touches
-            });
+            join(&mut houses);
         }
         let reaches = houses.iter().filter_map(|house| {
             let before = 10 * i128::from(house.fore) - middle;

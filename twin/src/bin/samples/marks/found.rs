@@ -35,9 +35,9 @@ fn corrected_decides(raw: &RawShip) -> bool {
     })
 }
 
-/// Random ships until each slip changes enough cases.
-pub fn for_each_slip(all: &mut Cases) {
-    for (seed, &(slip, ..)) in (1..).zip(SLIPS) {
+/// Random ships until each of these slips changes enough cases.
+pub fn for_each_slip(all: &mut Cases, of_these: impl Fn(Slip) -> bool) {
+    for (seed, &(slip, ..)) in (1..).zip(SLIPS).filter(|(_, &(slip, ..))| of_these(slip)) {
         let mut random = Random::new(seed);
         for count in all.told_by(slip).len()..LEAST {
             let raw = search(&mut random, slip);
@@ -71,12 +71,18 @@ fn search(random: &mut Random, slip: Slip) -> RawShip {
                 raw.houses[0].quarterdeck = true;
                 raw
             }
+            _ if in_reduction(slip) => random.low_ship(n),
             _ => random.ship(n),
         };
         if raw.check().is_ok_and(|ship| good(&ship)) {
             return raw;
         }
     }
+}
+
+/// The slips in the reduction for depth and about it, the last ones.
+pub fn in_reduction(slip: Slip) -> bool {
+    slip as usize >= Slip::ReductionNever as usize
 }
 
 /// A short type B ship with seven low houses and a forecastle: E is worth most to it.

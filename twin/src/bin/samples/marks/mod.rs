@@ -5,6 +5,7 @@ mod damaged;
 mod found;
 mod houses;
 mod last;
+mod low;
 mod sheer;
 
 use std::ops::Range;
@@ -128,7 +129,10 @@ pub fn cases() -> Cases {
     all.group("refusal-13", last::allowance_above_draught);
     all.group("damaged", damaged::damaged);
     all.group("random", found::every_count);
-    all.group("found", found::for_each_slip);
+    // Each slip's ships are drawn after the cases that were there before it, so that these stay.
+    all.group("found", |all| found::for_each_slip(all, |slip| !found::in_reduction(slip)));
+    low::groups(&mut all);
+    all.group("low-found", |all| found::for_each_slip(all, found::in_reduction));
     for &(slip, _, what) in SLIPS {
         assert!(all.told_by(slip).len() >= LEAST, "too few cases tell: {what}");
     }

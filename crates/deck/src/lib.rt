@@ -5,10 +5,8 @@ ghost use Prim.Native.Nat.{_≤_};
 ghost use lib.ListN.{take};
 ghost use Rattle.whole.specs.Pick.{pick};
 ghost use Rattle.ship.specs.Good.{GoodHouse, GoodHouses};
-ghost use Rattle.houses.specs.Forecastle.{isForecastle};
 ghost use Rattle.houses.specs.Amidships.{coversAmidships};
-ghost use Rattle.effective.specs.Unrounded.{ratioOf, unroundedOf};
-ghost use Rattle.deck.specs.Deck.{asForecastle, deckOf, deckWith, FairDeck};
+ghost use Rattle.deck.specs.Deck.{deckOf, deckWith, FairDeck};
 use ship::House;
 use summed::Summed;
 use units::Ratio;
@@ -32,30 +30,15 @@ pub struct Deck {
     pub amidships: Ratio,
 }
 
-// The forecastle with one more house before the others, of effective length `own`.
-fn forecastle_with(l: Span, h: House, own: Unrounded, forecastle: Forecastle) -> Forecastle
-    requires { ⌜ (l .0 ≤ 365000) × (own ≡ unroundedOf (l .0) h) ⌝ }
-    ensures { λ r. ⌜ r ≡ pick (isForecastle (l .0) h) (asForecastle (l .0) h) forecastle ⌝ }
-{
-    if houses::is_forecastle(l, h) {
-        let part = houses::part(l, h);
-        let height = h.height;
-        return Forecastle {
-            effective: own,
-            part,
-            height,
-        };
-    }
-    forecastle
-}
-
-// The ratio of heights of the house amidships, with one more house before the others.
-fn amidships_with(l: Span, h: House, ratio: Ratio) -> Ratio
+// The ratio of heights of the house amidships, with one more house before the others, of ratio `own`.
+fn amidships_with(l: Span, h: House, own: Ratio, ratio: Ratio) -> Ratio
     requires { ⌜ (l .0 ≤ 365000) × GoodHouse (l .0) h ⌝ }
-    ensures { λ r. ⌜ r ≡ pick (coversAmidships (l .0) h) (ratioOf (l .0) h) ratio ⌝ }
+    ensures { λ r. ⌜ r ≡ pick (coversAmidships (l .0) h) own ratio ⌝ }
 {
     if houses::covers_amidships(l, h) {
-        return effective::height_ratio(l, h);
+        let top = own.top; // number by number: a choice between two structs would keep the deck in memory
+        let bottom = own.bottom;
+        return Ratio { top, bottom };
     }
     ratio
 }
@@ -66,12 +49,21 @@ pub fn with_house(l: Span, h: House, d: Deck) -> Deck
     ensures { λ r. ⌜ r ≡ deckWith (l .0) h d ⌝ }
 {
     let part = houses::part(l, h);
-    let own = effective::effective_of(l, h);
+    let ratio = effective::height_ratio(l, h);
+    let own = effective::effective_of(l, h, ratio);
     let s = Span(part.0 + d.s.0);
     let effective = summed::with_one(h.quarterdeck, own, d.effective);
     let reach = houses::reach_of(l, h) + d.reach;
-    let forecastle = forecastle_with(l, h, own, d.forecastle);
-    let amidships = amidships_with(l, h, d.amidships);
+    let amidships = amidships_with(l, h, ratio, d.amidships);
+    let mut forecastle = d.forecastle;
+    if houses::is_forecastle(l, h) {
+        let height = h.height;
+        forecastle = Forecastle {
+            effective: own,
+            part,
+            height,
+        };
+    }
     Deck {
         s,
         effective,

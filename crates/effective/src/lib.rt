@@ -100,18 +100,19 @@ pub fn height_ratio(l: Span, h: House) -> Ratio
     }
 }
 
-// 35: the effective length of a house, over the numerator of its standard height. All ordinary houses have the same one, so their numerators can be added.
-pub fn effective_of(l: Span, h: House) -> Unrounded
-    requires { ⌜ (l .0 ≤ 365000) × (h .height .0 ≤ 8191) ⌝ }
+// 35: the effective length of a house with that ratio, over the numerator of its standard height. All ordinary houses have the same one, so their numerators
+// can be added.
+pub fn effective_of(l: Span, h: House, ratio: Ratio) -> Unrounded
+    requires { ⌜ (l .0 ≤ 365000) × (ratio ≡ ratioOf (l .0) h) ⌝ }
     ensures { λ r. ⌜ frac (r .top) (r .bottom) ≈f exactEffective (l .0) h ⌝ }
     ensures { λ r. ⌜ r ≡ unroundedOf (l .0) h ⌝ }
     ensures { λ r. ⌜ FairLength r ⌝ }
 {
     let length = limited_length(l, h);
-    let ratio = height_ratio(l, h);
+    let top = ratio.top;
     let bottom = ratio.bottom;
     Unrounded {
-        top: length.0 * ratio.top,
+        top: length.0 * top,
         bottom,
     }
 }

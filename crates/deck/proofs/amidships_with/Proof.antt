@@ -2,7 +2,6 @@ use mathlib.Core.Path.{sym, _∙_}
 use borrow.Author.Needs.{needs}
 use Rattle.whole.proofs.Pick.{pick-true, pick-false}
 use Rattle.houses.specs.Amidships.{coversAmidships}
-use Rattle.effective.specs.Unrounded.{ratioOf}
 use Rattle.deck.proofs.amidships_with.Statement.{statement}
 use Rattle.deck.proofs.amidships_with.Tie as tie
 
@@ -11,13 +10,11 @@ amidships-with-spec =
     tie.close
     (tie.spec
     (λ c κs. search needs)
-    (λ c κs. search needs)
-    (λ c.
-    let t = c .before in
-    let a = t .before .before .args in
-    c .height-ratio .ensures .1 .0
-    ∙ sym (pick-true (coversAmidships (a .l .0) (a .h)) (ratioOf (a .l .0) (a .h)) (a .ratio) (sym (t .before .covers-amidships .ensures) ∙ t .if1 .taken)))
     (λ c.
     let t = c .before in
     let a = t .before .args in
-    sym (pick-false (coversAmidships (a .l .0) (a .h)) (ratioOf (a .l .0) (a .h)) (a .ratio) (sym (t .covers-amidships .ensures) ∙ c .if1 .left))))
+    sym (pick-true (coversAmidships (a .l .0) (a .h)) (a .own) (a .ratio) (sym (t .covers-amidships .ensures) ∙ c .if1 .taken)))
+    (λ c.
+    let t = c .before in
+    let a = t .before .args in
+    sym (pick-false (coversAmidships (a .l .0) (a .h)) (a .own) (a .ratio) (sym (t .covers-amidships .ensures) ∙ c .if1 .left))))

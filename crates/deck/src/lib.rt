@@ -6,6 +6,7 @@ ghost use lib.ListN.{take};
 ghost use Rattle.whole.specs.Pick.{pick};
 ghost use Rattle.ship.specs.Good.{GoodHouse, GoodHouses};
 ghost use Rattle.houses.specs.Amidships.{coversAmidships};
+ghost use Rattle.effective.specs.Unrounded.{ratioOf};
 ghost use Rattle.deck.specs.Deck.{deckOf, deckWith, FairDeck};
 use ship::House;
 use summed::Summed;
@@ -43,13 +44,12 @@ fn amidships_with(l: Span, h: House, own: Ratio, ratio: Ratio) -> Ratio
     ratio
 }
 
-// A deck with one more house before the others.
-pub fn with_house(l: Span, h: House, d: Deck) -> Deck
-    requires { ⌜ (l .0 ≤ 365000) × GoodHouse (l .0) h × FairDeck (l .0) d ⌝ }
+// A deck with one more house before the others, of that ratio of heights.
+pub fn with_house(l: Span, h: House, ratio: Ratio, d: Deck) -> Deck
+    requires { ⌜ (l .0 ≤ 365000) × GoodHouse (l .0) h × (ratio ≡ ratioOf (l .0) h) × FairDeck (l .0) d ⌝ }
     ensures { λ r. ⌜ r ≡ deckWith (l .0) h d ⌝ }
 {
     let part = houses::part(l, h);
-    let ratio = effective::height_ratio(l, h);
     let own = effective::effective_of(l, h, ratio);
     let s = Span(part.0 + d.s.0);
     let effective = summed::with_one(h.quarterdeck, own, d.effective);
@@ -108,7 +108,8 @@ pub fn deck_of(l: Span, hs: [House; 8], n: usize) -> Deck
     while 0 < k {
         k -= 1;
         let h = hs[k];
-        d = with_house(l, h, d);
+        let ratio = effective::height_ratio(l, h);
+        d = with_house(l, h, ratio, d);
     }
     d
 }

@@ -22,6 +22,7 @@ use Rattle.ship.specs.Good.{GoodHouses}
 use Rattle.ship.proofs.Lines.{all-pass, all-pass-split, first-skip, first-passed}
 use Rattle.ship.proofs.Accepted.{good-houses}
 use Rattle.ship.proofs.Passing.{lines-pass, good-with}
+use Rattle.effective.specs.Unrounded.{lesserOf, ratioOf}
 use Rattle.deck.specs.Deck.{deckOf, deckWith, FairDeck}
 use Rattle.deck.proofs.Gathered.{deck-with, fair-deck}
 use Rattle.mark.specs.Others.{markLines}
@@ -147,6 +148,11 @@ module _ (x : Ship) (s : Sound x) (few : x .n < 8) (eight : length (x .houses) �
   fair-for zero h r = fair-deck (x .length .0) (housesOf x) (s .good .length-most) (s .good .houses)
   fair-for (suc k) h r = fair-with (suc k) (omega arith) h r
 
+  -- the poop's ratio of heights is the same for every length
+  same-ratio : (k : ℕ) → ratioOf (x .length .0) (poopHouse height 0) ≡ ratioOf (x .length .0) (poopHouse height k)
+  unfolding lesserOf poopHouse
+  same-ratio k = refl
+
   -- so what is worked once is within the bounds
   pub fair-standing : FairHull (hullOf x) → Fair (standingOf x height wish)
   unfolding standingOf hullOf
@@ -155,6 +161,7 @@ module _ (x : Ship) (s : Sound x) (few : x .n < 8) (eight : length (x .houses) �
       record {
         hull = h;
         deck = fair-deck (x .length .0) (housesOf x) (s .good .length-most) (s .good .houses);
+        ratio = same-ratio;
         floor = p .0;
         depth = p .1;
         displacement = p .2;

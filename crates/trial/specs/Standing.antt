@@ -1,11 +1,13 @@
 -- The trial of one length by what stays the same from length to length. That it answers as `fitsAt` does is a theorem (`fits-same`): nobody needs to believe this page.
 use Prim.Native.Nat.{ℕ, _-_, _*_, _≤_, _<_}
 use mathlib.Core.Bool.{Bool, _&&_}
+use mathlib.Core.Path.{_≡_}
 use lib.Dec.{eqb, leb}
 use Rattle.whole.specs.Pick.{pick}
 use Rattle.units.specs.Datum.{stationOf}
 use Rattle.ship.specs.declared.Ship.{Ship}
 use Rattle.ship.specs.Vessel.{housesOf, houseAt}
+use Rattle.effective.specs.Unrounded.{ratioOf}
 use Rattle.deck.specs.declared.Deck.{Deck}
 use Rattle.deck.specs.Deck.{deckOf, deckWith, FairDeck}
 use Rattle.mark.specs.Others.{markLines}
@@ -23,6 +25,7 @@ unfoldable pub standingOf : Ship → ℕ → ℕ → Standing
 standingOf x height wish = record {
   hull = hullOf x;
   deck = deckOf (x .length .0) (housesOf x);
+  ratio = ratioOf (x .length .0) (poopHouse height 0);
   room = record { 0 = roomOf x };
   particulars = particularsOf x;
   height = record { 0 = height };
@@ -44,6 +47,7 @@ fitsOn q k = leb (100 * k) (q .room .0) && markedOn q (summerOn (q .hull) (deckF
 pub record Fair (q : Standing) : Type 0 where
   pub hull : FairHull (q .hull)
   pub deck : FairDeck (q .hull .length .0) (q .deck)
+  pub ratio : (k : ℕ) → q .ratio ≡ ratioOf (q .hull .length .0) (poopHouse (q .height .0) k)
   pub floor : q .particulars .floor ≤ 60000
   pub depth : q .particulars .depth .0 ≤ 60000
   pub displacement : q .particulars .displacement < 1048576

@@ -10,12 +10,15 @@ use mark::Answer;
 use mark::Particulars;
 use ship::House;
 use ship::Ship;
+use units::Ratio;
 use units::Span;
 
-// What no length of poop changes: the hull, the deck without a poop, how far a poop may reach, what the marks need besides, and what is asked.
+// What no length of poop changes: the hull, the deck without a poop, the poop's ratio of heights, how far it may reach, what the marks need besides, and what is
+// asked.
 pub struct Standing {
     pub hull: Hull,
     pub deck: Deck,
+    pub ratio: Ratio,
     pub room: Span,
     pub particulars: Particulars,
     pub height: Span,
@@ -35,27 +38,6 @@ fn room_of(x: Ship) -> Span
     units::between(ap, h.aft)
 }
 
-// The same, worked for a ship, a height of poop and a wish.
-pub fn standing_of(x: Ship, height: Span, wish: u64) -> Standing
-    requires { ⌜ Sound x × (x .n < 8) × (1 ≤ height .0) × (height .0 ≤ 8191) ⌝ }
-    ensures { λ r. ⌜ r ≡ standingOf x (height .0) wish ⌝ }
-    ensures { λ r. ⌜ Fair r ⌝ }
-{
-    let hs = x.houses;
-    let hull = hull::hull_of(x);
-    let deck = deck::deck_of(x.length, hs, x.n);
-    let room = room_of(x);
-    let particulars = hull::particulars_of(x, hull.basis.floor);
-    Standing {
-        hull,
-        deck,
-        room,
-        particulars,
-        height,
-        wish,
-    }
-}
-
 // The poop of `k` decimetres.
 fn poop_house(height: Span, k: u64) -> House
     requires { ⌜ k ≤ 3650 ⌝ }
@@ -72,6 +54,29 @@ fn poop_house(height: Span, k: u64) -> House
     }
 }
 
+// The same, worked for a ship, a height of poop and a wish.
+pub fn standing_of(x: Ship, height: Span, wish: u64) -> Standing
+    requires { ⌜ Sound x × (x .n < 8) × (1 ≤ height .0) × (height .0 ≤ 8191) ⌝ }
+    ensures { λ r. ⌜ r ≡ standingOf x (height .0) wish ⌝ }
+    ensures { λ r. ⌜ Fair r ⌝ }
+{
+    let hs = x.houses;
+    let hull = hull::hull_of(x);
+    let deck = deck::deck_of(x.length, hs, x.n);
+    let ratio = effective::height_ratio(x.length, poop_house(height, 0));
+    let room = room_of(x);
+    let particulars = hull::particulars_of(x, hull.basis.floor);
+    Standing {
+        hull,
+        deck,
+        ratio,
+        room,
+        particulars,
+        height,
+        wish,
+    }
+}
+
 // The deck with a poop of `k` decimetres; none where `k` is 0.
 fn deck_for(q: Standing, k: u64) -> Deck
     requires { ⌜ Fair q × (100 * k ≤ q .hull .length .0) ⌝ }
@@ -83,7 +88,7 @@ fn deck_for(q: Standing, k: u64) -> Deck
         return deck;
     }
     let height = q.height;
-    deck::with_house(hull.length, poop_house(height, k), deck)
+    deck::with_house(hull.length, poop_house(height, k), q.ratio, deck)
 }
 
 // Whether the marks that follow from `s` are given, with S at most the wish.

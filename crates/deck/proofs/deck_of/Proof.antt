@@ -7,6 +7,7 @@ use lib.Seq.{length-take-le, getD-take, drop-cons}
 use native.Mathlib.Omega.{arith}
 use borrow.Author.Needs.{needs}
 use Rattle.ship.specs.Vessel.{houseAt}
+use Rattle.ship.specs.Good.{GoodHouse}
 use Rattle.deck.specs.Deck.{deckOf, deckWith}
 use Rattle.deck.proofs.Gathered.{deck-with, fair-deck, good-from}
 use Rattle.deck.proofs.deck_of.Statement.{statement}
@@ -21,6 +22,13 @@ abbrev μ-loop : tie.MeasureT-loop
 -- the list has n houses
 long : (s : tie.Start Inv-loop μ-loop) → length (take (s .args .n) (s .args .t2)) ≡ s .args .n
 long s = let m : length (s .args .t2) ≡ 8 = search needs in length-take-le (s .args .n) (s .args .t2) (omega arith)
+
+-- and each is good
+good-at : (s : tie.Start Inv-loop μ-loop) (k : ℕ) → (0 < k) × (k ≤ s .args .n) → GoodHouse (s .args .l .0) (houseAt (s .args .t2) (k - 1))
+good-at s k p =
+    let a = s .args in
+    let h : k - 1 < a .n = omega arith in
+    rw (getD-take (a .n) (a .t2) (k - 1) _ h) at (s .pre .2 .each (k - 1) (omega (arith, long s)))
 
 pub deck-of-spec : {M : Type 1} → statement M
 deck-of-spec =
@@ -37,21 +45,21 @@ deck-of-spec =
     (λ c. search needs)
     (λ c. search needs)
     (λ c. search needs)
+    (λ c κs. let s = c .before .before .before .before in good-at s (c .before .before .loop .k) (omega arith, omega arith) .height-most)
     (λ c κs.
-    let t = c .before .before in
+    let t = c .before .before .before in
     let s = t .before .before in
     let a = s .args in
     let hs = take (a .n) (a .t2) in
-    let k = t .loop .k in
-    let h : k - 1 < a .n = omega arith in
-    let g = s .pre .2 in (
+    let k = t .loop .k in (
       s .pre .0,
-      rw (getD-take (a .n) (a .t2) (k - 1) _ h) at (g .each (k - 1) (omega (arith, long s))),
-      rw (t .loop .inv .1) (fair-deck (a .l .0) (drop k hs) (s .pre .0) (good-from (a .l .0) hs k g)),
+      good-at s k (omega arith, omega arith),
+      c .height-ratio .ensures .1 .0,
+      rw (t .loop .inv .1) (fair-deck (a .l .0) (drop k hs) (s .pre .0) (good-from (a .l .0) hs k (s .pre .2))),
     ))
     (λ c. search needs)
     (λ c.
-    let t = c .before .before .before in
+    let t = c .before .before .before .before in
     let s = t .before .before in
     let a = s .args in
     let hs = take (a .n) (a .t2) in

@@ -20,7 +20,7 @@ laid : (f : tie.After-is-forecastle) (b : Bool) → f .is-forecastle .result ≡
     let r = m .before .before in
     let w = r .before in
     let e = w .before .before .before in
-    let p = e .before .before in
+    let p = e .before in
     let a = p .before .args in
     let deck : Deck = record {
       s = record { 0 = p .part .result .0 + a .d .s .0 };
@@ -36,12 +36,12 @@ laid f b t =
     let r = m .before .before in
     let w = r .before in
     let e = w .before .before .before in
-    let p = e .before .before in
+    let p = e .before in
     let a = p .before .args in
     let q : b ≡ isForecastle (a .l .0) (a .h) = sym t ∙ f .is-forecastle .ensures in
     let own = e .effective-of .ensures .1 .0 in
     let sums = w .with-one .ensures ∙ ap (λ (u : Unrounded). summedWith (a .h .quarterdeck) (u .top) (a .d .effective)) own in
-    let ratio = m .amidships-with .ensures ∙ (λ i. pick (coversAmidships (a .l .0) (a .h)) (e .before .height-ratio .ensures .1 .0 i) (a .d .amidships)) in
+    let ratio = m .amidships-with .ensures ∙ (λ i. pick (coversAmidships (a .l .0) (a .h)) (p .before .pre .2 i) (a .d .amidships)) in
     λ i. record {
       s = record { 0 = p .part .ensures .0 i + a .d .s .0 };
       effective = sums i;
@@ -57,17 +57,16 @@ with-house-spec =
     (tie.spec
     (λ c κs. search needs)
     (λ c κs. search needs)
-    (λ c κs. search needs)
     (λ c. search needs)
     (λ c κs.
     let e = c .before .before in
-    let s = e .before .before .before in
-    let d = s .pre .2 in
+    let s = e .before .before in
+    let d = s .pre .3 in
     let over = ap (λ (u : Unrounded). u .bottom) (e .effective-of .ensures .1 .0) ∙ sym (d .bottoms (s .args .h .quarterdeck)) in
     (e .effective-of .ensures .1 .1, d .sums, over))
     (λ c κs. search needs)
-    (λ c. omega (arith, c .before .reach-of .ensures .1, c .before .before .before .before .before .before .before .before .pre .2 .reach))
-    (λ c κs. let s = c .before .before .before .before .before .before .before .before in (s .pre .0, s .pre .1))
+    (λ c. search needs)
+    (λ c κs. search needs)
     (λ c κs. search needs)
     (λ c. laid (c .before .before) _ (c .before .if1 .taken))
     (λ c. laid (c .before) _ (c .if1 .left)))

@@ -5,6 +5,7 @@ use borrow.Author.Needs.{needs}
 use borrow.Author.Tests.{eq-eqb, ne-eqb}
 use Rattle.whole.proofs.Pick.{pick-true, pick-false}
 use Rattle.ship.specs.declared.House.{House}
+use Rattle.effective.specs.Unrounded.{ratioOf}
 use Rattle.deck.specs.Deck.{deckWith}
 use Rattle.trial.specs.Standing.{deckFor}
 use Rattle.trial.proofs.Passing.{poop-good}
@@ -26,6 +27,7 @@ deck-for-spec =
       f .hull .length-most,
       rw (c .poop-house .ensures)
           (poop-good (q .hull .length .0) (q .height .0) (s .args .k) (omega (arith, e .if1 .left)) (omega (arith, f .hull .length-least)) (s .pre .1) (f .height-least) (f .height-most)),
+      f .ratio (s .args .k) ∙ ap (ratioOf (q .hull .length .0)) (sym (c .poop-house .ensures)),
       f .deck,
     ))
     (λ c.

@@ -15,7 +15,7 @@ madeFull table typeB l cb e = fullness cb (table + pick typeB (shortB l e) 0)
 unfoldable pub exactMadeFull : Frac → Bool → ℕ → ℕ → Frac → Frac
 exactMadeFull table typeB l cb e = exactFullness cb (table +f pick typeB (exactShortB l e) (whole 0))
 
--- and 31
+-- and what depth (31) adds
 unfoldable pub added : ℕ → Bool → ℕ → ℕ → ℕ → ℕ → ℕ
 added table typeB l d cb e = madeFull table typeB l cb e + depthAddition l d
 

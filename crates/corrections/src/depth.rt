@@ -37,6 +37,7 @@ pub fn reduction(length: Span, depth: Span, ratio: Ratio) -> Freeboard
     let top = ratio.top;
     let bottom = ratio.bottom;
     let lacking = less(l, 15 * d); // in fifteenths of a millimetre
+    // either way nothing is taken, and nothing need be divided
     if lacking == 0 {
         return Freeboard(0);
     }

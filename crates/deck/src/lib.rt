@@ -31,17 +31,17 @@ pub struct Deck {
     pub amidships: Ratio,
 }
 
-// The ratio of heights of the house amidships, with one more house before the others, of ratio `own`.
-fn amidships_with(l: Span, h: House, own: Ratio, ratio: Ratio) -> Ratio
+// The ratio of heights of the house amidships, with one more house before the others: its own, or the others'.
+fn amidships_with(l: Span, h: House, own: Ratio, others: Ratio) -> Ratio
     requires { ⌜ (l .0 ≤ 365000) × GoodHouse (l .0) h ⌝ }
-    ensures { λ r. ⌜ r ≡ pick (coversAmidships (l .0) h) own ratio ⌝ }
+    ensures { λ r. ⌜ r ≡ pick (coversAmidships (l .0) h) own others ⌝ }
 {
     if houses::covers_amidships(l, h) {
         let top = own.top; // number by number: a choice between two structs would keep the deck in memory
         let bottom = own.bottom;
         return Ratio { top, bottom };
     }
-    ratio
+    others
 }
 
 // A deck with one more house before the others, of that ratio of heights.

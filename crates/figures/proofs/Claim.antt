@@ -51,7 +51,7 @@ unfolding Short29.exactShortB Short29.shortB Fullness30.exactFullness Fullness30
 Corrections = Unit {0}
 
 unfoldable pub Marking : Type 0
-unfolding Summer.exactSummer Summer.summerMark Others.tropical Others.winter Others.atlantic Others.allowance Others.sixMarks Others.sheetAt Basis.basisOf Steps.coveredS Steps.effectiveE Steps.forecastleHouse Steps.amidshipsHouse Steps.coverReach Steps.addedTo Steps.takenFrom Steps.bowOf Steps.summerOf Steps.particularsOf Marks.sheetIn
+unfolding Summer.exactSummer Summer.summerMark Others.tropical Others.winter Others.atlantic Others.allowance Others.sixMarks Others.sheetAt Basis.basisOf Steps.coveredS Steps.effectiveE Steps.forecastleHouse Steps.amidshipsRatio Steps.coverReach Steps.addedTo Steps.takenFrom Steps.bowOf Steps.summerOf Steps.particularsOf Marks.sheetIn
 Marking = Unit {0}
 
 unfoldable pub Asking : Type 0

@@ -24,7 +24,7 @@ covers l h e =
     (leb-true _ _ (aft .1), leb-true _ _ (both .1))
 
 module _ (l : ℕ) (hs : List House) (g : GoodHouses l hs) where
-  -- a house ends before any later one begins
+  -- a house ends at or abaft where any later one begins
   later : (j k : ℕ) → j < k → k < length hs → houseAt hs j .fore .0 ≤ houseAt hs k .aft .0
   later j zero p q = absurd (omega arith)
   later j (suc k) p q =

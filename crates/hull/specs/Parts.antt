@@ -1,6 +1,6 @@
 -- A ship without its houses, so that a search over houses works again only what they change.
 -- Theorems tie it to the steps (`summer-parts` of `summer`): nobody needs to believe this page.
-use Prim.Native.Nat.{ℕ, _+_, _^_, _≤_}
+use Prim.Native.Nat.{_+_, _^_, _≤_}
 use Rattle.units.specs.Datum.{lift, sheerAt}
 use Rattle.ship.specs.declared.Ship.{Ship}
 use Rattle.corrections.specs.Fullness30.{counted}

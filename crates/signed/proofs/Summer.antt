@@ -1,4 +1,4 @@
--- Demand 2's exact value is 01's formula worked with signed fractions and then held to the floor.
+-- Demand 2's exact value is the papers' formula worked with signed fractions and then held to the floor.
 use Prim.Native.Nat.{_+_, _≤_}
 use native.Mathlib.Omega.{arith}
 use Rattle.whole.specs.Frac.{Frac, _+f_, _*f_, whole, frac}
@@ -7,7 +7,6 @@ use Rattle.percentages.specs.Table37.{ordinaryRow}
 use Rattle.ship.specs.declared.Ship.{Ship}
 use Rattle.ship.specs.Vessel.{housesOf}
 use Rattle.houses.specs.Length.{partOf}
-use Rattle.houses.specs.Height.{heightRatio}
 use Rattle.houses.specs.Effective.{exactEffective}
 use Rattle.houses.proofs.Counted.{covered-most}
 use Rattle.corrections.specs.Fullness30.{counted}
@@ -17,7 +16,7 @@ use Rattle.deduction.specs.Deduction37.{exactDeducted}
 use Rattle.sheer.specs.Sheer as Sheer
 use Rattle.bow.specs.Bow as Bow
 use Rattle.mark.specs.Summer.{exactSummer}
-use Rattle.steps.specs.Steps.{Sound, typeB, coveredS, forecastleHouse, amidshipsHouse, coverReach, basis}
+use Rattle.steps.specs.Steps.{Sound, typeB, coveredS, forecastleHouse, amidshipsRatio, coverReach, basis}
 use Rattle.steps.specs.Exact.{exactE, exactAddedTo, exactTakenFrom, exactBowOf, exactSummerOf}
 use Rattle.signed.specs.Signed.{_≈s_, plain, _+s_, _-s_}
 use Rattle.signed.specs.Summer.{corrected, bowOf, signedSummerOf}
@@ -35,7 +34,7 @@ corrected-same : (x : Ship) → Sound x → corrected x ≈s plain (exactAddedTo
 unfolding corrected exactAddedTo exactTakenFrom Before.exactAdded
 corrected-same x k =
     let l = x .length .0 in
-    let ratio = heightRatio l (amidshipsHouse x) in
+    let ratio = amidshipsRatio x in
     let f = Before.exactMadeFull (basis x .exact) (typeB x) l (counted (x .block)) (exactE x) in
     let a = exactDepthAddition l (x .depth .0) in
     let t = exactDepthReduction l (x .depth .0) ratio in

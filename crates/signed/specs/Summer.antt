@@ -4,12 +4,11 @@ use Rattle.whole.specs.Frac.{whole, frac}
 use Rattle.percentages.specs.Table37.{ordinaryRow}
 use Rattle.ship.specs.declared.Ship.{Ship}
 use Rattle.houses.specs.Length.{partOf}
-use Rattle.houses.specs.Height.{heightRatio}
 use Rattle.houses.specs.Effective.{exactEffective}
 use Rattle.corrections.specs.Fullness30.{counted}
 use Rattle.corrections.specs.Gathered.{exactMadeFull}
 use Rattle.deduction.specs.Deduction37.{exactDeducted}
-use Rattle.steps.specs.Steps.{typeB, coveredS, forecastleHouse, amidshipsHouse, coverReach, basis}
+use Rattle.steps.specs.Steps.{typeB, coveredS, forecastleHouse, amidshipsRatio, coverReach, basis}
 use Rattle.steps.specs.Exact.{exactE}
 use Rattle.signed.specs.Signed.{Signed, plain, _+s_, _-s_, _*s_, maxs}
 use Rattle.signed.specs.Formula.{byDepth, mean, bySheer, bow}
@@ -18,7 +17,7 @@ use Rattle.signed.specs.Formula.{byDepth, mean, bySheer, bow}
 unfoldable pub corrected : Ship → Signed
 corrected x =
     plain (exactMadeFull (basis x .exact) (typeB x) (x .length .0) (counted (x .block)) (exactE x))
-    +s byDepth (x .length .0) (x .depth .0) (heightRatio (x .length .0) (amidshipsHouse x))
+    +s byDepth (x .length .0) (x .depth .0) (amidshipsRatio x)
     -s plain (exactDeducted (typeB x) ordinaryRow (exactEffective (x .length .0) (forecastleHouse x)) (x .length .0) (exactE x))
     +s bySheer (mean (x .sheer) (x .length .0)) (x .length .0) (coveredS x) (coverReach x)
 

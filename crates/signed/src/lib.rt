@@ -1,1 +1,1 @@
-// 01's formula for the summer mark, worked with signed fractions: definitions and a theorem, no function.
+// The papers' formula for the summer mark, worked with signed fractions: definitions and theorems, no function.

@@ -15,7 +15,6 @@ use Rattle.percentages.proofs.Rule37.{each-row}
 use Rattle.ship.specs.declared.Ship.{Ship}
 use Rattle.ship.specs.Vessel.{housesOf}
 use Rattle.houses.specs.Length.{partOf}
-use Rattle.houses.specs.Height.{heightRatio}
 use Rattle.houses.specs.Effective.{exactEffective}
 use Rattle.houses.proofs.Rounded.{effective-length-below}
 use Rattle.houses.proofs.Midship.{reach-most}
@@ -28,7 +27,7 @@ use Rattle.bow.proofs.Bound.{bow-within}
 use Rattle.mark.specs.Summer.{Holds}
 use Rattle.mark.proofs.Bound.{summer-holds}
 use Rattle.steps.specs.Basis.{Basis, basisOf}
-use Rattle.steps.specs.Steps.{Sound, typeB, basis, coveredS, effectiveE, forecastleHouse, amidshipsHouse, coverReach, addedTo, takenFrom, bowOf, summerOf}
+use Rattle.steps.specs.Steps.{Sound, typeB, basis, coveredS, effectiveE, forecastleHouse, amidshipsRatio, coverReach, addedTo, takenFrom, bowOf, summerOf}
 use Rattle.steps.specs.Exact.{exactE, exactAddedTo, exactTakenFrom, exactBowOf, exactSummerOf}
 
 -- the line that a type starts from is exact
@@ -51,7 +50,7 @@ corrected-within x k =
     let r : coverReach x ≤ 2 * l = unfold coverReach in reach-most l (housesOf x) (g .houses) in
     let a = loosen {f = frac 345 100} (omega arith) (added-within (line-exact x) (typeB x) l (x .depth .0) (counted (x .block)) (effectiveE x) (exactE x) (g .length-least) (omega arith) w) in
     let d = loosen {f = frac 325 100} (omega arith) (deducted-below (each-row Ordinary .rising) (typeB x) (exactEffective l (forecastleHouse x)) l (effectiveE x) (exactE x) (g .length-least) w) in
-    let t = below-sum (reduction-below l (x .depth .0) (heightRatio l (amidshipsHouse x))) d in
+    let t = below-sum (reduction-below l (x .depth .0) (amidshipsRatio x)) d in
     loosen (omega arith) (sheer-within (x .sheer) l (coveredS x) (coverReach x) (omega arith) r a t)
 
 -- the bow's freeboard: never below the exact one, and at most 13 um above it

@@ -18,7 +18,7 @@ use Rattle.corrections.specs.Depth31.{depthReduction}
 use Rattle.corrections.specs.Gathered as Before
 use Rattle.corrections.proofs.Depth31.{addition-rises, reduction-falls, reduction-none}
 use Rattle.mark.proofs.Bound.{summer-rises}
-use Rattle.steps.specs.Steps.{basis, coveredS, effectiveE, forecastleHouse, amidshipsHouse, coverReach, addedTo, takenFrom, bowOf, summerOf}
+use Rattle.steps.specs.Steps.{basis, coveredS, effectiveE, forecastleHouse, amidshipsRatio, coverReach, addedTo, takenFrom, bowOf, summerOf}
 
 -- a ship that differs in depth alone
 abbrev pub ofDepth : ℕ → Ship → Ship
@@ -42,7 +42,7 @@ module _ (x : Ship) (d : ℕ) (p : x .depth .0 ≤ d) where
   more-added = omega (arith, addition-rises (x .length .0) (x .depth .0) d p)
 
   less-taken : (row : List ℕ) → takenFrom row (ofDepth d x) ≤ takenFrom row x
-  unfolding takenFrom coveredS effectiveE forecastleHouse amidshipsHouse coverReach
+  unfolding takenFrom coveredS effectiveE forecastleHouse amidshipsRatio coverReach
   less-taken row =
       omega (arith, reduction-falls (x .length .0) (x .depth .0) d (heightRatio (x .length .0) (amidshipsOf (x .length .0) (housesOf x))) p)
 
@@ -58,8 +58,8 @@ none-that test [] each = refl
 none-that test (h ∷ hs) each = pick-false (test h) h (houseThat test hs) (each 0 (omega arith)) ∙ none-that test hs (λ k p. each (suc k) (omega arith))
 
 pub none-amidships : (x : Ship) → ((k : ℕ) → k < length (housesOf x) → coversAmidships (x .length .0) (houseAt (housesOf x) k) ≡ false)
-    → depthReduction (x .length .0) (x .depth .0) (heightRatio (x .length .0) (amidshipsHouse x)) ≡ 0
-unfolding amidshipsHouse amidshipsOf
+    → depthReduction (x .length .0) (x .depth .0) (amidshipsRatio x) ≡ 0
+unfolding amidshipsRatio amidshipsOf
 none-amidships x each =
     let l = x .length .0 in
     let e = none-that (coversAmidships l) (housesOf x) each in

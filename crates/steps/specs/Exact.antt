@@ -7,7 +7,6 @@ use Rattle.percentages.specs.Table37.{ordinaryRow}
 use Rattle.ship.specs.declared.Ship.{Ship}
 use Rattle.ship.specs.Vessel.{housesOf}
 use Rattle.houses.specs.Length.{partOf}
-use Rattle.houses.specs.Height.{heightRatio}
 use Rattle.houses.specs.Effective.{exactEffective, exactEffectiveLength}
 use Rattle.corrections.specs.Fullness30.{counted}
 use Rattle.corrections.specs.Depth31.{exactDepthReduction}
@@ -16,7 +15,7 @@ use Rattle.deduction.specs.Deduction37.{exactDeducted}
 use Rattle.sheer.specs.Sheer as Sheer
 use Rattle.bow.specs.Bow.{exactBow}
 use Rattle.mark.specs.Summer.{exactSummer}
-use Rattle.steps.specs.Steps.{typeB, coveredS, forecastleHouse, amidshipsHouse, coverReach, basis}
+use Rattle.steps.specs.Steps.{typeB, coveredS, forecastleHouse, amidshipsRatio, coverReach, basis}
 
 -- E is a fraction here; S, the cover's reach, and the forecastle's length and height are whole numbers in the steps already, and the ratio of heights a fraction
 unfoldable pub exactE : Ship → Frac
@@ -29,7 +28,7 @@ exactAddedTo x =
 
 unfoldable pub exactTakenFrom : List ℕ → Ship → Frac
 exactTakenFrom row x =
-    exactDepthReduction (x .length .0) (x .depth .0) (heightRatio (x .length .0) (amidshipsHouse x))
+    exactDepthReduction (x .length .0) (x .depth .0) (amidshipsRatio x)
     +f exactDeducted (typeB x) row (exactEffective (x .length .0) (forecastleHouse x)) (x .length .0) (exactE x)
     +f Sheer.exactDeducted (x .sheer) (x .length .0) (coveredS x) (coverReach x)
 

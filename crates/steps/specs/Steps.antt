@@ -3,6 +3,7 @@ use Prim.Native.Nat.{ℕ, _+_, _≤_}
 use mathlib.Core.Bool.{Bool}
 use mathlib.Core.List.{List}
 use lib.Dec.{eqb}
+use Rattle.whole.specs.Frac.{Frac}
 use Rattle.units.specs.Datum.{sheerAt}
 use Rattle.percentages.specs.Table37.{ordinaryRow}
 use Rattle.ship.specs.declared.House.{House}
@@ -34,7 +35,8 @@ pub record Sound (x : Ship) : Type 0 where
 abbrev pub typeB : Ship → Bool
 typeB x = eqb (x .kind) 1
 
--- houses (33-35): S in mm, E in um, the forecastle, the house amidships (31), and the reach of the cover in tenths of a mm
+-- houses (33-35): S in mm, E in um, the forecastle, the ratio of heights of the house amidships (31), and the reach of the cover in tenths of a
+-- mm
 unfoldable pub coveredS : Ship → ℕ
 coveredS x = coveredLength (x .length .0) (housesOf x)
 
@@ -44,8 +46,8 @@ effectiveE x = effectiveLength (x .length .0) (housesOf x)
 unfoldable pub forecastleHouse : Ship → House
 forecastleHouse x = forecastleOf (x .length .0) (housesOf x)
 
-unfoldable pub amidshipsHouse : Ship → House
-amidshipsHouse x = amidshipsOf (x .length .0) (housesOf x)
+unfoldable pub amidshipsRatio : Ship → Frac
+amidshipsRatio x = heightRatio (x .length .0) (amidshipsOf (x .length .0) (housesOf x))
 
 unfoldable pub coverReach : Ship → ℕ
 coverReach x = reach (x .length .0) (housesOf x)
@@ -54,7 +56,7 @@ coverReach x = reach (x .length .0) (housesOf x)
 abbrev pub basis : Ship → Basis
 basis x = basisOf (typeB x) (x .length .0)
 
--- what is added: the table, short B ships (29), fullness (30), depth (31), and sheer (38) where it is lacking; by the Cb that counts
+-- what is added: the table, short B ships (29), fullness (30), depth (31) above L / 15, and sheer (38) where it is lacking; by the Cb that counts
 unfoldable pub addedTo : Ship → ℕ
 addedTo x =
     Before.added (basis x .line) (typeB x) (x .length .0) (x .depth .0) (counted (x .block)) (effectiveE x)
@@ -63,7 +65,7 @@ addedTo x =
 -- what is taken away: depth (31) below L / 15 with a house amidships, the houses' deduction (37) by a row of percentages, and sheer (38) in excess
 unfoldable pub takenFrom : List ℕ → Ship → ℕ
 takenFrom row x =
-    depthReduction (x .length .0) (x .depth .0) (heightRatio (x .length .0) (amidshipsHouse x))
+    depthReduction (x .length .0) (x .depth .0) (amidshipsRatio x)
     + deducted (typeB x) row (exactEffective (x .length .0) (forecastleHouse x)) (x .length .0) (effectiveE x)
     + Sheer.deducted (x .sheer) (x .length .0) (coveredS x) (coverReach x)
 

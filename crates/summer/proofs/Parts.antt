@@ -23,7 +23,7 @@ use Rattle.mark.specs.Summer.{summerMark}
 use Rattle.effective.proofs.Unrounded.{ratio-exact, unrounded-exact}
 use Rattle.summed.proofs.Sums.{effective-summed}
 use Rattle.deck.specs.Deck.{deckOf}
-use Rattle.steps.specs.Steps.{typeB, basis, coveredS, effectiveE, forecastleHouse, amidshipsHouse, coverReach, addedTo, takenFrom, bowOf, summerOf}
+use Rattle.steps.specs.Steps.{typeB, basis, coveredS, effectiveE, forecastleHouse, amidshipsRatio, coverReach, addedTo, takenFrom, bowOf, summerOf}
 use Rattle.hull.specs.Parts.{hullOf}
 use Rattle.summer.specs.Parts.{addedOn, takenOn, bowOn, summerOn}
 
@@ -32,7 +32,7 @@ taken-parts : (row : List ℕ) (x : Ship)
     → let d = deckOf (x .length .0) (housesOf x) in
     takenOn row (hullOf x) (d .amidships) (d .forecastle .effective) (effectiveE x) (Sheer.deducted (x .sheer) (x .length .0) (coveredS x) (coverReach x))
     ≡ takenFrom row x
-unfolding takenOn hullOf deckOf takenFrom forecastleHouse amidshipsHouse deducted
+unfolding takenOn hullOf deckOf takenFrom forecastleHouse amidshipsRatio deducted
 taken-parts row x =
     let l = x .length .0 in
     ap₂ (λ (n : ℕ) (t : Bool). n + pick t 0 (deduction row l (effectiveE x)) + Sheer.deducted (x .sheer) l (coveredS x) (coverReach x))

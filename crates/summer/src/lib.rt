@@ -30,7 +30,7 @@ fn deduction_by(row: Row, l: Span, e: Effective) -> Freeboard
     deduction::of_full(l, deduction::share(p, q, l, e))
 }
 
-// What is added: the line, made greater for short B ships (29) and fullness (30), then depth (31), then sheer where it is lacking (38).
+// What is added: the line, made greater for short B ships (29) and fullness (30), then what depth adds (31), then sheer where it is lacking (38).
 fn added(h: Hull, e: Effective, lacking: Freeboard) -> Freeboard
     requires { ⌜ FairHull h × (lacking .0 ≤ 9000000) ⌝ }
     ensures { λ r. ⌜ r .0 ≡ addedOn h (e .0) (lacking .0) ⌝ }

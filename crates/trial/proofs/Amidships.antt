@@ -1,7 +1,7 @@
--- 31 in the question: the poop is the house amidships exactly from 100k = 0.8 L on, and then a reduction is taken in the asked height's ratio.
+-- 31 in the question: the poop covers 0.2 L to 0.8 L exactly from 100k = 0.8 L on, and is then the house amidships.
 use Prim.Native.Nat.{ℕ, _+_, _*_, _≤_}
 use mathlib.Core.Path.{_≡_, ap₂, _∙_}
-use mathlib.Core.Bool.{true, _&&_}
+use mathlib.Core.Bool.{_&&_}
 use mathlib.Core.List.{List, _∷_}
 use native.Mathlib.Omega.{arith}
 use borrow.Author.Tests.{le-leb}

@@ -54,7 +54,7 @@ fn poop_house(height: Span, k: u64) -> House
     }
 }
 
-// The same, worked for a ship, a height of poop and a wish.
+// What no length changes, worked for a ship, a height of poop and a wish.
 pub fn standing_of(x: Ship, height: Span, wish: u64) -> Standing
     requires { ⌜ Sound x × (x .n < 8) × (1 ≤ height .0) × (height .0 ≤ 8191) ⌝ }
     ensures { λ r. ⌜ r ≡ standingOf x (height .0) wish ⌝ }

@@ -13,8 +13,8 @@ amidships-with-spec =
     (λ c.
     let t = c .before in
     let a = t .before .args in
-    sym (pick-true (coversAmidships (a .l .0) (a .h)) (a .own) (a .ratio) (sym (t .covers-amidships .ensures) ∙ c .if1 .taken)))
+    sym (pick-true (coversAmidships (a .l .0) (a .h)) (a .own) (a .others) (sym (t .covers-amidships .ensures) ∙ c .if1 .taken)))
     (λ c.
     let t = c .before in
     let a = t .before .args in
-    sym (pick-false (coversAmidships (a .l .0) (a .h)) (a .own) (a .ratio) (sym (t .covers-amidships .ensures) ∙ c .if1 .left))))
+    sym (pick-false (coversAmidships (a .l .0) (a .h)) (a .own) (a .others) (sym (t .covers-amidships .ensures) ∙ c .if1 .left))))

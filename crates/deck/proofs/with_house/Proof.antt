@@ -2,7 +2,6 @@
 use Prim.Native.Nat.{_+_}
 use mathlib.Core.Bool.{Bool}
 use mathlib.Core.Path.{_≡_, sym, ap, _∙_}
-use native.Mathlib.Omega.{arith}
 use borrow.Author.Needs.{needs}
 use Rattle.whole.specs.Pick.{pick}
 use Rattle.units.specs.declared.Unrounded.{Unrounded}

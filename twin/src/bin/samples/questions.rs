@@ -184,7 +184,7 @@ fn sums(all: &mut Questions) {
     all.ship("low-poop-at-25-m", Poop(60), 1_000, 227, &with(short, &[fore]));
 }
 
-/// 120 m, D below L/15, and a forecastle: from 0.8 L on the poop is the house amidships of 31(2).
+/// D 7 m, below L/15, and a forecastle: from 0.8 L on the poop is the house amidships of 31(2).
 fn low(length: u64) -> RawShip {
     let raw = RawShip {
         kind: 1,

@@ -26,7 +26,7 @@ pub fn addition(length: Span, depth: Span) -> Freeboard
     Freeboard(mul_div_up(15 * d - l, 250, 15))
 }
 
-// By the ratio of heights of the house amidships, 0 where there is none. It is rounded once: the ratio is in the one quotient.
+// What is taken, in the ratio of heights of the house amidships, which is 0 where there is none. It is rounded once: the ratio is in the one quotient.
 pub fn reduction(length: Span, depth: Span, ratio: Ratio) -> Freeboard
     requires { ⌜ (length .0 ≤ 365000) × (depth .0 ≤ 60000) × (ratio .top ≤ ratio .bottom) × (1 ≤ ratio .bottom) × (ratio .bottom ≤ 2 ^ 27) ⌝ }
     ensures { λ r. ⌜ r .0 ≡ depthReduction (length .0) (depth .0) (frac (ratio .top) (ratio .bottom)) ⌝ }

@@ -35,8 +35,7 @@ pub record Sound (x : Ship) : Type 0 where
 abbrev pub typeB : Ship → Bool
 typeB x = eqb (x .kind) 1
 
--- houses (33-35): S in mm, E in um, the forecastle, the ratio of heights of the house amidships (31), and the reach of the cover in tenths of a
--- mm
+-- houses (33-35): S in mm, E in um, the forecastle, the ratio of heights of 31's house amidships, and the reach of the cover in tenths of a mm
 unfoldable pub coveredS : Ship → ℕ
 coveredS x = coveredLength (x .length .0) (housesOf x)
 

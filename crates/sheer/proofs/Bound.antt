@@ -8,10 +8,11 @@ use native.Mathlib.Nat.{zero-mul, zero-min}
 use Rattle.whole.specs.Frac.{Frac, _≤f_, _+f_, _*f_, _-f_, whole, frac}
 use Rattle.whole.specs.Round.{Within, Below}
 use Rattle.whole.proofs.Frac.{bot-of, refl≤, trans≤, +-mono≤, *-mono≤, sub-le}
-use Rattle.whole.proofs.Round.{near-self, loosen, sum, below-sum, less, by-ceil, by-floor, ceil-zero, floor-zero, near-times, near-min, near-ceil, near-floor}
-use Rattle.whole.proofs.Signed.{one-nought, one-side}
+use Rattle.whole.proofs.Round.{near-self, loosen, sum, below-sum, less, by-ceil, by-floor, near-times, near-min, near-ceil, near-floor}
+use Rattle.whole.proofs.Signed.{one-side}
 use Rattle.units.specs.declared.Ordinate.{Ordinate}
-use Rattle.sheer.specs.Sheer.{afterSum, forwardSum, meanAbove, meanLacks, exactExcess, exactDeficiency, exactAddition, exactDeduction, excess, deficiency, addition, deduction, added, deducted, exactAdded, exactDeducted}
+use Rattle.sheer.specs.Sheer.{afterSum, forwardSum, exactExcess, exactDeficiency, exactAddition, exactDeduction, excess, deficiency, addition, deduction, added, deducted, exactAdded, exactDeducted}
+use Rattle.sheer.proofs.Rounded.{one-part, none-added, none-deducted}
 
 factor-most : (L S : ℕ) → frac 75 100 -f frac S (2 * L) ≤f whole 1
 factor-most L S = sub-le (frac 75 100) (frac S (2 * L)) (whole 1) (omega arith)
@@ -36,19 +37,11 @@ deducted-below o L S reach h g =
 -- one of the two is 0
 one-correction : (o : List Ordinate) (L S reach : ℕ)
     → ((added o L S ≡ 0) × (exactAdded o L S .top ≡ 0)) ⊎ ((deducted o L S reach ≡ 0) × (exactDeducted o L S reach .top ≡ 0))
-unfolding added addition deficiency exactAdded exactAddition exactDeficiency deducted deduction excess exactDeducted exactDeduction exactExcess
+unfolding added exactAdded exactAddition deducted exactDeducted exactDeduction
 one-correction o L S reach =
-    let a = afterSum o in
-    let f = forwardSum o in
-    elim (one-nought (meanLacks a f L) (meanAbove a f L)) [
-      | inl z ↦ (
-          let d = ceil-zero (exactDeficiency a f L) z in
-          inl (ceil-zero (exactAddition (whole (deficiency a f L)) L S) (rw (d, zero-mul)), rw (z, zero-mul))
-          )
-      | inr z ↦ (
-          let e = floor-zero (exactExcess a f L) z in
-          inr (floor-zero (exactDeduction (whole (excess a f L)) L S reach) (rw (e, zero-mul, zero-mul, zero-mul, zero-min)), rw (z, zero-mul, zero-mul, zero-mul, zero-min))
-          )
+    elim (one-part (afterSum o) (forwardSum o) L) [
+      | inl z ↦ inl (rw (z .0) (none-added L S), rw (z .1, zero-mul))
+      | inr z ↦ inr (none-deducted (excess (afterSum o) (forwardSum o) L) L S reach (rw (z .0, zero-mul)), rw (z .1, zero-mul, zero-mul, zero-mul, zero-min))
     ]
 
 -- Both in one: to what is added so far and what is taken, sheer adds its own; their difference stays never below the exact one, and 2 um further above it than it was

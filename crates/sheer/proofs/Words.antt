@@ -2,7 +2,7 @@
 use Prim.Native.Nat.{ℕ, suc, _+_, _*_, _-_, _≤_, _<_, min}
 use mathlib.Core.Path.{_≡_, _∙_}
 use native.Mathlib.Omega.{arith}
-use native.Mathlib.Nat.{mul-pos, one-mul, mul-one}
+use native.Mathlib.Nat.{mul-pos, one-mul, mul-one, mul-le-mul-left, min-le-right}
 use lib.Dec.{ltb}
 use borrow.Author.Tests.{le-ltb, lt-ltb}
 use Rattle.whole.specs.Pick.{pick}
@@ -74,16 +74,37 @@ after-whole a f L t =
     simp (lacks-test f (1334 * (L + 30000)) (standardForward L) (forward-same L), le-ltb (30000 * f) (lift7 + 1334 * (L + 30000)) t)
     (above-same a (667 * (L + 30000)) (standardAfter L) (after-same L))
 
--- ---- the mean of both halves
-pub mean-above : {x y z : Frac} (c g s w : ℕ) → 0 < w → frac c 240 ≈f x → frac g 240 ≈f y → frac s w ≈f z → frac (c * w + g * s) (480 * w) ≈f (x +f y *f z) *f frac 1 2
-mean-above c g s w p h k e =
-    trans≈ {y = (frac c 240 +f frac g 240 *f frac s w) *f frac 1 2} (record { eq = rw (bot-of (480 * w) (omega arith), bot-of w p) (omega arith) })
-    (*-same (+-same h (*-same k e)) (refl≈ (frac 1 2)))
+-- ---- what of a forward excess counts, top / bottom: g / 240 times the share n / w, which is at most 1. Where one of the two is 0 or the share is 1, w cancels
+module _ (a f L g n : ℕ) (p : g ≡ 30000 * f - (lift7 + 1334 * (L + 30000))) (q : n ≡ 120000 * a - (4 * lift7 + 2 * (667 * (L + 30000)))) where
+  credit : (top bottom : ℕ) → 0 < bottom → top * (667 * (L + 30000)) ≡ g * min (667 * (L + 30000)) n * bottom
+      → frac top (240 * bottom) ≈f above f (standardForward L) *f forwardShare a (standardAfter L)
+  credit top bottom b e =
+      let w = 667 * (L + 30000) in
+      let h : frac g 240 ≈f above f (standardForward L) = rw p (above-same f (1334 * (L + 30000)) (standardForward L) (forward-same L)) in
+      let k : frac (min w n) w ≈f forwardShare a (standardAfter L) = rw q (share-same a w (standardAfter L) (after-same L) (omega arith) (standard-pos L)) in
+      trans≈ {y = frac g 240 *f frac (min w n) w} (record { eq = rw (bot-of (240 * bottom) (omega arith), bot-of w (omega arith)) (omega (arith, e)) }) (*-same h k)
 
-pub mean-lacks : {x y : Frac} (m n w : ℕ) → 0 < w → frac m 240 ≈f x → frac n 240 ≈f y → frac ((m + n) * w) (480 * w) ≈f (x +f y) *f frac 1 2
-mean-lacks m n w p h k =
-    trans≈ {y = (frac m 240 +f frac n 240) *f frac 1 2} (record { eq = rw (bot-of (480 * w) (omega arith)) (omega arith) })
-    (*-same (+-same h k) (refl≈ (frac 1 2)))
+  pub credit-none : g * n ≡ 0 → frac 0 240 ≈f above f (standardForward L) *f forwardShare a (standardAfter L)
+  credit-none e = credit 0 1 (omega arith) (omega (arith, e, mul-le-mul-left g (min-le-right (667 * (L + 30000)) n)))
+
+  pub credit-whole : 667 * (L + 30000) ≤ n → frac g 240 ≈f above f (standardForward L) *f forwardShare a (standardAfter L)
+  credit-whole t = let e : min (667 * (L + 30000)) n ≡ 667 * (L + 30000) = omega arith in credit g 1 (omega arith) (rw e (omega arith))
+
+  pub credit-part : n ≤ 667 * (L + 30000) → frac (g * n) (240 * (667 * (L + 30000))) ≈f above f (standardForward L) *f forwardShare a (standardAfter L)
+  credit-part t = let e : min (667 * (L + 30000)) n ≡ n = omega arith in credit (g * n) (667 * (L + 30000)) (omega arith) (rw e (omega arith))
+
+-- ---- the mean of both halves, over 480 and the bottom b of the credit
+pub mean-above : {x y : Frac} (c g b d : ℕ) → 0 < b → d ≡ 480 * b → frac c 240 ≈f x → frac g (240 * b) ≈f y → frac (c * b + g) d ≈f (x +f y) *f frac 1 2
+mean-above c g b d p e h k =
+    rw e
+    (trans≈ {y = (frac c 240 +f frac g (240 * b)) *f frac 1 2} (record { eq = rw (bot-of (480 * b) (omega arith), bot-of (240 * b) (omega arith)) (omega arith) })
+    (*-same (+-same h k) (refl≈ (frac 1 2))))
+
+pub mean-lacks : {x : Frac} (n b d : ℕ) → 0 < b → d ≡ 480 * b → frac n 240 ≈f x → frac (n * b) d ≈f x *f frac 1 2
+mean-lacks n b d p e h =
+    rw e
+    (trans≈ {y = frac n 240 *f frac 1 2} (record { eq = rw (bot-of (480 * b) (omega arith)) (omega arith) })
+    (*-same h (refl≈ (frac 1 2))))
 
 -- ---- 0.75 - S / 2L, alone and with the cover
 pub factor-words : (L S : ℕ) → 0 < L → frac (3 * L - 2 * S) (4 * L) ≈f frac 75 100 -f frac S (2 * L)

@@ -1,10 +1,11 @@
 // Sheer (regulation 38): the mean of both halves, which no house changes. What it adds to the freeboard and what it deducts is worked in
 // `sheer_correction`, by the definitions here.
 ghost use mathlib.Core.Path.{_≡_};
-ghost use Prim.Native.Nat.{_+_, _*_, _≤_, _<_};
-ghost use Rattle.whole.specs.Frac.{_≈f_, frac};
+ghost use Prim.Native.Nat.{_+_, _*_, _-_, _/_, _≤_, _<_};
+ghost use Rattle.whole.specs.Divide.{ceilDiv};
+ghost use Rattle.whole.specs.Frac.{_≈f_, _+f_, _*f_, frac};
 ghost use Rattle.units.specs.Datum.{lift, Lifted};
-ghost use Rattle.sheer.specs.Sheer.{weighted, standardAfter, afterCounts, forwardShare, meanAbove, meanLacks, excess, deficiency, afterSum, forwardSum};
+ghost use Rattle.sheer.specs.Sheer.{weighted, standardAfter, standardForward, above, lacks, afterCounts, forwardShare, excess, deficiency, afterSum, forwardSum};
 use units::Freeboard;
 use units::LIFT;
 use units::Ordinate;
@@ -19,6 +20,12 @@ pub struct Mean {
     pub excess: Freeboard,
 }
 
+// What of a forward excess counts, a fraction: `top` / `bottom` 240ths of a um.
+struct Credit {
+    top: u64,
+    bottom: u64,
+}
+
 // A half's sum of three ordinates, in millimetres.
 fn half(perpendicular: Ordinate, sixth: Ordinate, third: Ordinate) -> u64
     requires { ⌜ (perpendicular .0 < lift + lift) × (sixth .0 < lift + lift) × (third .0 < lift + lift) ⌝ }
@@ -29,17 +36,6 @@ fn half(perpendicular: Ordinate, sixth: Ordinate, third: Ordinate) -> u64
     let s = sixth.0;
     let t = third.0;
     p + 3 * s + 3 * t
-}
-
-// The part of a forward excess that counts, by the after half's sum: so many of w, the after half's standard.
-fn share(a: u64, l: Span) -> u64
-    requires { ⌜ (a ≤ 14 * lift) × (l .0 ≤ 365000) ⌝ }
-    ensures { λ r. ⌜ frac r (667 * (l .0 + 30000)) ≈f forwardShare a (standardAfter (l .0)) ⌝ }
-    ensures { λ r. ⌜ r ≤ 667 * (l .0 + 30000) ⌝ }
-{
-    let mm = l.0;
-    let w = 667 * (mm + 30000);
-    whole::lesser(w, whole::less(120000 * a, 4 * LIFT7 + 2 * w))
 }
 
 // What of an after excess counts, in 240ths of a um: none where the forward half lacks sheer.
@@ -55,42 +51,76 @@ fn after(a: u64, f: u64, l: Span) -> u64
     whole::less(30000 * a, LIFT7 + 667 * (mm + 30000))
 }
 
-// The mean of both halves' excess as it counts, times 480 after standards: so it is whole.
-fn over(a: u64, f: u64, l: Span) -> u64
+// What of a forward excess counts: none where the after half has 50 per cent of its standard w or less, all from 75 on. There w cancels; it stays in the
+// divisor only between the two.
+fn forward(a: u64, f: u64, l: Span) -> Credit
     requires { ⌜ (a ≤ 14 * lift) × (f ≤ 14 * lift) × (l .0 ≤ 365000) ⌝ }
-    ensures { λ r. ⌜ frac r (480 * (667 * (l .0 + 30000))) ≈f meanAbove a f (l .0) ⌝ }
-    ensures { λ r. ⌜ r ≤ 3442000000 * (667 * (l .0 + 30000)) ⌝ }
+    ensures { λ r. ⌜ frac (r .top) (240 * r .bottom) ≈f above f (standardForward (l .0)) *f forwardShare a (standardAfter (l .0)) ⌝ }
+    ensures { λ r. ⌜ (0 < r .bottom) × (r .bottom ≤ 263465000) × (r .top ≤ 1721000000 * r .bottom) ⌝ }
 {
     let mm = l.0;
     let w = 667 * (mm + 30000);
-    after(a, f, l) * w + whole::less(30000 * f, LIFT7 + 1334 * (mm + 30000)) * share(a, l)
+    let excess = whole::less(30000 * f, LIFT7 + 1334 * (mm + 30000));
+    let part = whole::less(120000 * a, 4 * LIFT7 + 2 * w);
+    let counts = excess * part;
+    if counts == 0 {
+        return Credit { top: 0, bottom: 1 };
+    }
+    if w <= part {
+        return Credit {
+            top: excess,
+            bottom: 1,
+        };
+    }
+    Credit {
+        top: counts,
+        bottom: w,
+    }
 }
 
-// The mean of both halves' deficiency, the same.
-fn under(a: u64, f: u64, l: Span) -> u64
+// What both halves lack, in 240ths of a um.
+fn lacking(a: u64, f: u64, l: Span) -> u64
     requires { ⌜ (a ≤ 14 * lift) × (f ≤ 14 * lift) × (l .0 ≤ 365000) ⌝ }
-    ensures { λ r. ⌜ frac r (480 * (667 * (l .0 + 30000))) ≈f meanLacks a f (l .0) ⌝ }
-    ensures { λ r. ⌜ r ≤ 4300000000 * (667 * (l .0 + 30000)) ⌝ }
+    ensures { λ r. ⌜ frac r 240 ≈f lacks a (standardAfter (l .0)) +f lacks f (standardForward (l .0)) ⌝ }
+    ensures { λ r. ⌜ r ≤ 4300000000 ⌝ }
 {
     let mm = l.0;
-    let w = 667 * (mm + 30000);
-    (whole::less(LIFT7 + w, 30000 * a) + whole::less(LIFT7 + 1334 * (mm + 30000), 30000 * f)) * w
+    whole::less(LIFT7 + 667 * (mm + 30000), 30000 * a)
+        + whole::less(LIFT7 + 1334 * (mm + 30000), 30000 * f)
 }
 
-// The mean of both halves, rounded down.
+// (p - q) / d um, rounded down: of its two quotients the one that the sign asks for.
+fn down(p: u64, q: u64, d: u64) -> Mean
+    requires { ⌜ (0 < d) × (d ≤ 126463200000) × (p ≤ 7200000 * d) × (q ≤ 9000000 * d) ⌝ }
+    ensures { λ r. ⌜ (r .deficiency .0 ≡ ceilDiv (q - p) d) × (r .excess .0 ≡ (p - q) / d) ⌝ }
+    ensures { λ r. ⌜ (r .deficiency .0 ≤ 9000000) × (r .excess .0 ≤ 7200000) ⌝ }
+{
+    if p < q {
+        return Mean {
+            deficiency: Freeboard(whole::div_up(q - p, d)),
+            excess: Freeboard(0),
+        };
+    }
+    Mean {
+        deficiency: Freeboard(0),
+        excess: Freeboard((p - q) / d),
+    }
+}
+
+// The mean of both halves, rounded down. Where the credit's divisor is 1 the mean is over the constant 480, which the compiler multiplies by.
 fn mean_of(a: u64, f: u64, l: Span) -> Mean
     requires { ⌜ (a ≤ 14 * lift) × (f ≤ 14 * lift) × (l .0 ≤ 365000) ⌝ }
     ensures { λ r. ⌜ (r .deficiency .0 ≡ deficiency a f (l .0)) × (r .excess .0 ≡ excess a f (l .0)) ⌝ }
     ensures { λ r. ⌜ (r .deficiency .0 ≤ 9000000) × (r .excess .0 ≤ 7200000) ⌝ }
 {
-    let p = over(a, f, l);
-    let q = under(a, f, l);
-    let mm = l.0;
-    let d = 480 * (667 * (mm + 30000));
-    Mean {
-        deficiency: Freeboard(whole::div_up(whole::less(q, p), d)),
-        excess: Freeboard(whole::less(p, q) / d),
+    let credit = forward(a, f, l);
+    let b = credit.bottom;
+    let p = after(a, f, l) * b + credit.top;
+    let q = lacking(a, f, l) * b;
+    if b == 1 {
+        return down(p, q, 480);
     }
+    down(p, q, 480 * b)
 }
 
 // 38(8) to (11): the mean. The ordinates are AP, L/6, L/3 from AP, then L/3, L/6 from FP, FP. No house changes it.

@@ -19,7 +19,11 @@ fn add(deficiency: Freeboard, l: Span, s: Span) -> Freeboard
     ensures { λ r. ⌜ r .0 ≤ 9000000 ⌝ }
 {
     let mm = l.0;
-    Freeboard(whole::mul_div_up(deficiency.0, 3 * mm - 2 * s.0, 4 * mm))
+    let um = deficiency.0;
+    if um == 0 {
+        return Freeboard(0);
+    }
+    Freeboard(whole::mul_div_up(um, 3 * mm - 2 * s.0, 4 * mm))
 }
 
 // What an excess deducts.
@@ -29,7 +33,11 @@ fn deduct(excess: Freeboard, l: Span, s: Span, reach: u64) -> Freeboard
     ensures { λ r. ⌜ r .0 ≤ 456250 ⌝ }
 {
     let mm = l.0;
-    let full = whole::mul_div_down(excess.0, (3 * mm - 2 * s.0) * reach, 8 * (mm * mm));
+    let covered = excess.0 * reach;
+    if covered == 0 {
+        return Freeboard(0);
+    }
+    let full = whole::mul_div_down(covered, 3 * mm - 2 * s.0, 8 * (mm * mm));
     Freeboard(whole::lesser(full, 5 * mm / 4))
 }
 

@@ -1,12 +1,15 @@
 -- 02: the figures that its requests and their readings state, in the same form. A row has the request's number.
-use Prim.Native.Nat.{ℕ}
+use Prim.Native.Nat.{ℕ, _+_, _*_}
 use mathlib.Core.List.{List, [], _∷_}
+use Rattle.whole.specs.Frac.{ceil}
+use Rattle.units.specs.Datum.{lift}
 use Rattle.ship.specs.declared.House.{House}
 use Rattle.record.specs.Layout.{shipIn}
 use Rattle.houses.specs.Height.{heightRatio}
 use Rattle.houses.specs.Effective.{effectiveLength}
 use Rattle.houses.specs.Amidships.{amidshipsOf}
 use Rattle.corrections.specs.Depth31.{depthReduction}
+use Rattle.sheer.specs.Sheer.{exactDeficiency, exactAddition, excess, deficiency, addition}
 use Rattle.steps.specs.Steps.{summerOf}
 use Rattle.trial.specs.Poop.{withPoop}
 use Rattle.question.specs.Question.{Reply, replyIn}
@@ -25,6 +28,21 @@ r4 =
 abbrev pub asked4 : ℕ → Reply
 asked4 wish = replyIn r4 2300 wish
 
+-- ---- §8: it states none; these are worked by hand at the borders of its cancelling. The mean of a ship of 90 m, by its after sum in mm: 50 and 75 per cent of
+-- standard are 1334 and 2001 mm. The forward sum is 800 mm above standard, an excess of 100 mm
+abbrev pub lacks8 : ℕ → ℕ
+lacks8 after = deficiency (7 * lift + after) (7 * lift + 6136) 90000
+
+abbrev pub over8 : ℕ → ℕ
+over8 after = excess (7 * lift + after) (7 * lift + 6136) 90000
+
+-- a ship of 90.001 m with no sheer and no houses, its mean rounded first, as 01 has it, and not rounded
+abbrev pub flat8 : ℕ
+flat8 = addition (deficiency (7 * lift) (7 * lift) 90001) 90001 0
+
+abbrev pub unrounded8 : ℕ
+unrounded8 = ceil (exactAddition (exactDeficiency (7 * lift) (7 * lift) 90001) 90001 0)
+
 -- ---- the table. The questions stand last: each search goes over more than 900 lengths
 unfoldable pub requests : List Row
 requests =
@@ -37,6 +55,14 @@ requests =
     ∷ one 4 (depthTakes 120000 7999 (house 24000 96000 2250 ∷ [])) 250
     ∷ one 4 (summerOf (withPoop 2300 959 (shipIn r4))) 785
     ∷ one 4 (summerOf (withPoop 2300 960 (shipIn r4))) 534
+    ∷ one 8 (lacks8 1333) 83438
+    ∷ one 8 (lacks8 1334) 83375
+    ∷ one 8 (lacks8 1335) 83238
+    ∷ one 8 (over8 2000) 8175
+    ∷ one 8 (over8 2001) 8312
+    ∷ one 8 (over8 2002) 8375
+    ∷ one 8 flat8 375192
+    ∷ one 8 unrounded8 375191
     ∷ askedRow 4 (asked4 785) (0 ∷ 0 ∷ 959 ∷ [])
     ∷ askedRow 4 (asked4 784) (0 ∷ 0 ∷ 960 ∷ [])
     ∷ askedRow 4 (asked4 534) (0 ∷ 0 ∷ 960 ∷ [])

@@ -53,7 +53,7 @@ fn low(random: &mut Random, quarterdeck: bool, length: i64) -> u64 {
 
 /// At times a poop that leads to a short search, if there is room for one. On a shallow ship it may
 /// reach 0.8 L; that search is short enough on a short ship.
-fn poop(random: &mut Random, ship: &Ship, shallow: bool) -> Option<House> {
+pub fn poop(random: &mut Random, ship: &Ship, shallow: bool) -> Option<House> {
     let room = ship.houses.first().map_or(ship.length, |first| first.aft) / 100;
     let reach = shortest_amidships(ship.length) + random.between(0, 2);
     let amidships = shallow && ship.length <= 30_000 && reach <= room;
@@ -71,7 +71,8 @@ pub fn shortest_amidships(length: i64) -> i64 {
     (4 * length + 499) / 500
 }
 
-fn with(ship: &Ship, poop: Option<House>) -> Ship {
+/// The ship with the poop, if there is one.
+pub fn with(ship: &Ship, poop: Option<House>) -> Ship {
     let houses = poop.map_or(ship.houses, |poop| ship.houses.after(poop));
     Ship { houses, ..ship.clone() }
 }
@@ -92,13 +93,16 @@ fn tuned(random: &mut Random, mut ship: Ship, shallow: bool) -> Option<Ship> {
         ship.depth = random.between(least, most).clamp(1_000, 60_000);
         ship.cb = random.between(6_800, 10_000);
         let steps = marks::steps(&ship);
-        let freeboard = steps.corrected.max(steps.bow);
-        freeboard > 50_000
-            && freeboard % 1000 <= 1
+        at_whole_mm(steps.corrected.max(steps.bow))
             && (!shallow || reduction_shows(&steps))
             && marks::marks(&ship).is_ok()
     });
     fine.then_some(ship)
+}
+
+/// At a whole mm or one um above it, where the floor does not decide.
+pub fn at_whole_mm(freeboard: i64) -> bool {
+    freeboard > 50_000 && freeboard % 1000 <= 1
 }
 
 /// The reduction for depth is there, and the bow height does not hide it.

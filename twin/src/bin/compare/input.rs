@@ -10,6 +10,7 @@ use crate::border;
 use crate::fine;
 use crate::flat::{self, SHIP};
 use crate::frame::{MEMORY, ROOM};
+use crate::sheer;
 
 /// How a record came about.
 #[derive(Clone, Copy)]
@@ -19,6 +20,7 @@ pub enum Kind {
     Border,
     Damaged,
     Noise,
+    Sheer,
 }
 
 impl fmt::Display for Kind {
@@ -29,6 +31,7 @@ impl fmt::Display for Kind {
             Kind::Border => "at a border",
             Kind::Damaged => "damaged",
             Kind::Noise => "noise",
+            Kind::Sheer => "about sheer",
         })
     }
 }
@@ -51,16 +54,7 @@ impl Input {
     pub fn draw(random: &mut Random) -> Input {
         let n = random.between(0, MAX_HOUSES as i64) as usize;
         let raw = random.any_ship(n);
-        let pattern = random.number();
-        let mut input = Input {
-            kind: Kind::Valid,
-            record: filled(pattern),
-            record_length: record::record_bytes(n),
-            question: None,
-            ship: [0; SHIP],
-            buffer_length: buffer_length(random, n),
-            memory: filled(pattern.rotate_left(4)),
-        };
+        let mut input = Input::blank(random, n);
         match random.between(1, 20) {
             1..=6 => input.pack(&raw),
             7 | 8 => input.put_whole_mm(random, n),
@@ -73,6 +67,30 @@ impl Input {
             input.question = Some(asked(random, input.record()));
         }
         input
+    }
+
+    /// One around the borders of sheer.
+    pub fn draw_sheer(random: &mut Random) -> Input {
+        let (raw, question) = sheer::ship(random);
+        let mut input = Input::blank(random, raw.n as usize);
+        input.kind = Kind::Sheer;
+        input.question = question;
+        input.pack(&raw);
+        input.ship = stated(random, raw);
+        input
+    }
+
+    fn blank(random: &mut Random, n: usize) -> Input {
+        let pattern = random.number();
+        Input {
+            kind: Kind::Valid,
+            record: filled(pattern),
+            record_length: record::record_bytes(n),
+            question: None,
+            ship: [0; SHIP],
+            buffer_length: buffer_length(random, n),
+            memory: filled(pattern.rotate_left(4)),
+        }
     }
 
     /// The bytes of the record.

@@ -1,7 +1,8 @@
-//! The archive's calls against the twin: `compare SEED COUNT PROGRAM...`.
+//! The archive's calls against the twin: `compare SEED COUNT [sheer] PROGRAM...`.
 //!
-//! The program is answer.c, linked to the archive. It gets COUNT inputs drawn from SEED, in batches.
-//! The first answer that differs from the twin's ends the run.
+//! The program is answer.c, linked to the archive. It gets COUNT inputs drawn from SEED, in batches;
+//! with `sheer` they are all around the borders of regulation 38. The first answer that differs from
+//! the twin's ends the run.
 
 mod border;
 mod fine;
@@ -9,6 +10,7 @@ mod flat;
 mod frame;
 mod input;
 mod judge;
+mod sheer;
 mod tally;
 
 use std::io::{Read, Write};
@@ -21,23 +23,33 @@ use input::Input;
 use tally::Tally;
 use twin::random::Random;
 
-const USAGE: &str = "usage: compare SEED COUNT PROGRAM...";
+const USAGE: &str = "usage: compare SEED COUNT [sheer] PROGRAM...";
 /// Batches drawn ahead of the one that is judged.
 const AHEAD: usize = 4;
 /// So many inputs show every refusal.
 const ENOUGH: u64 = 1_000_000;
 
+/// What is asked for.
+#[derive(Clone, Copy)]
+struct Run {
+    seed: u64,
+    count: u64,
+    /// All inputs around the borders of sheer.
+    sheer: bool,
+}
+
 fn main() -> ExitCode {
     let arguments: Vec<String> = std::env::args().skip(1).collect();
-    let Some((seed, count, program)) = parsed(&arguments) else {
+    let Some((run, program)) = parsed(&arguments) else {
         eprintln!("{USAGE}");
         return ExitCode::from(2);
     };
-    match compare(seed, count, program) {
+    match compare(run, program) {
         Ok(tally) => {
             println!("{tally}");
             match tally.unseen() {
-                Some(refusal) if count >= ENOUGH => {
+                // Not every refusal comes of ships about sheer.
+                Some(refusal) if run.count >= ENOUGH && !run.sheer => {
                     eprintln!("refusal {refusal} was never seen");
                     ExitCode::FAILURE
                 }
@@ -45,18 +57,23 @@ fn main() -> ExitCode {
             }
         }
         Err(why) => {
-            println!("seed {seed}, {why}");
+            println!("seed {}, {why}", run.seed);
             ExitCode::FAILURE
         }
     }
 }
 
-fn parsed(arguments: &[String]) -> Option<(u64, u64, &[String])> {
-    let [seed, count, program @ ..] = arguments else { return None };
-    (!program.is_empty()).then_some((seed.parse().ok()?, count.parse().ok()?, program))
+fn parsed(arguments: &[String]) -> Option<(Run, &[String])> {
+    let [seed, count, rest @ ..] = arguments else { return None };
+    let (sheer, program) = match rest {
+        [first, program @ ..] if first == "sheer" => (true, program),
+        program => (false, program),
+    };
+    let run = Run { seed: seed.parse().ok()?, count: count.parse().ok()?, sheer };
+    (!program.is_empty()).then_some((run, program))
 }
 
-fn compare(seed: u64, count: u64, program: &[String]) -> Result<Tally, String> {
+fn compare(run: Run, program: &[String]) -> Result<Tally, String> {
     let mut child = Command::new(&program[0])
         .args(&program[1..])
         .stdin(Stdio::piped())
@@ -66,8 +83,8 @@ fn compare(seed: u64, count: u64, program: &[String]) -> Result<Tally, String> {
     let requests = child.stdin.take().expect("a pipe was asked for");
     let (sender, batches) = mpsc::sync_channel(AHEAD);
     // Feeding and reading at once, lest the two programs wait for each other with full pipes.
-    let feeder = thread::spawn(move || feed(seed, count, requests, sender));
-    let result = judge_all(&mut child, batches);
+    let feeder = thread::spawn(move || feed(run, requests, sender));
+    let result = judge_all(&mut child, batches, Tally::new(run.sheer));
     if result.is_err() {
         // It may have ended by itself; the difference is what matters.
         let _ = child.kill();
@@ -81,12 +98,13 @@ fn compare(seed: u64, count: u64, program: &[String]) -> Result<Tally, String> {
 }
 
 /// Draws the inputs and sends them, a batch to the judge first and then to the program.
-fn feed(seed: u64, count: u64, mut requests: ChildStdin, sender: SyncSender<Vec<Input>>) {
-    let mut random = Random::new(seed);
-    let mut left = count;
+fn feed(run: Run, mut requests: ChildStdin, sender: SyncSender<Vec<Input>>) {
+    let draw = if run.sheer { Input::draw_sheer } else { Input::draw };
+    let mut random = Random::new(run.seed);
+    let mut left = run.count;
     while left > 0 {
         let size = left.min(BATCH as u64);
-        let inputs: Vec<Input> = (0..size).map(|_| Input::draw(&mut random)).collect();
+        let inputs: Vec<Input> = (0..size).map(|_| draw(&mut random)).collect();
         let bytes = frame::batch(&inputs);
         // Either fails only when the other side has ended, which is told there.
         if sender.send(inputs).is_err() || requests.write_all(&bytes).is_err() {
@@ -97,10 +115,13 @@ fn feed(seed: u64, count: u64, mut requests: ChildStdin, sender: SyncSender<Vec<
 }
 
 /// Reads each batch's answers and compares them with the twin's.
-fn judge_all(child: &mut Child, batches: Receiver<Vec<Input>>) -> Result<Tally, String> {
+fn judge_all(
+    child: &mut Child,
+    batches: Receiver<Vec<Input>>,
+    mut tally: Tally,
+) -> Result<Tally, String> {
     let mut answers = child.stdout.take().expect("a pipe was asked for");
     let mut bytes = vec![0; BATCH * ANSWER];
-    let mut tally = Tally::default();
     for inputs in batches {
         let bytes = &mut bytes[..inputs.len() * ANSWER];
         let first = tally.inputs + 1;
@@ -116,4 +137,23 @@ fn judge_all(child: &mut Child, batches: Receiver<Vec<Input>>) -> Result<Tally, 
         }
     }
     Ok(tally)
+}
+
+#[cfg(test)]
+mod tests {
+    use super::*;
+
+    #[test]
+    fn arguments() {
+        let of = |line: &str| {
+            let words: Vec<String> = line.split(' ').map(String::from).collect();
+            parsed(&words).map(|(run, program)| (run.seed, run.count, run.sheer, program.join(" ")))
+        };
+        assert_eq!(of("1 20 answer"), Some((1, 20, false, "answer".into())));
+        assert_eq!(of("1 20 sheer run answer"), Some((1, 20, true, "run answer".into())));
+        assert_eq!(of("1 20 run sheer"), Some((1, 20, false, "run sheer".into())));
+        for line in ["1 20", "1 20 sheer", "1 sheer answer"] {
+            assert_eq!(of(line), None, "{line}");
+        }
+    }
 }

@@ -1,12 +1,14 @@
-//! What was compared, how often a reduction for depth was in it, and how often each refusal was seen.
+//! What was compared, how often a reduction for depth was in it, and how often each refusal was seen;
+//! for inputs around the borders of sheer, where the marks lie.
 
 use std::fmt;
 
-use twin::marks;
-use twin::record;
+use twin::marks::{self, Steps};
+use twin::record::{self, Ship};
 
 use crate::frame::Answer;
 use crate::input::{Input, Kind};
+use crate::sheer;
 
 const CALLS: [&str; 5] = ["marks", "reads", "writes back", "writes", "questions"];
 const REFUSALS: usize = 17;
@@ -15,16 +17,68 @@ const REFUSALS: usize = 17;
 pub struct Tally {
     pub inputs: u64,
     /// In the order of `Kind`.
-    kinds: [u64; 5],
+    kinds: [u64; 6],
     /// Calls made and accepted, in the order of `CALLS`.
     calls: [(u64, u64); CALLS.len()],
     /// Marks with a reduction for depth, and poops that earn one.
     reductions: (u64, u64),
     /// By number, from 1.
     refusals: [u64; REFUSALS],
+    /// For inputs around the borders of sheer.
+    sheer: Option<Sheer>,
+}
+
+/// Marks by where they lie.
+#[derive(Default)]
+struct Sheer {
+    /// After sum at or below 50 per cent of the standard, between, at or above 75 per cent.
+    after: [u64; 3],
+    /// Mean above zero, below it, and zero.
+    mean: [u64; 3],
+    /// Mean from -2 to 1 um.
+    near_zero: u64,
+    /// At a whole mm or one um above it.
+    whole_mm: u64,
+}
+
+impl Sheer {
+    fn add(&mut self, ship: &Ship, steps: &Steps) {
+        let [ap, sixth, third, ..] = ship.sheer;
+        let (standard, sum) = (sheer::standard(ship.length), sheer::sum([ap, sixth, third]));
+        let quarters = 120_000 * sum;
+        let after = usize::from(quarters > 2 * standard) + usize::from(quarters >= 3 * standard);
+        self.after[after] += 1;
+        let mean = match steps.sheer_mean {
+            1.. => 0,
+            ..=-1 => 1,
+            0 => 2,
+        };
+        self.mean[mean] += 1;
+        self.near_zero += u64::from((-2..=1).contains(&steps.sheer_mean));
+        self.whole_mm += u64::from(sheer::shows(steps));
+    }
+}
+
+impl fmt::Display for Sheer {
+    fn fmt(&self, f: &mut fmt::Formatter) -> fmt::Result {
+        let Sheer { after: [low, between, high], mean: [excess, lack, neither], .. } = self;
+        write!(
+            f,
+            "marks with an after sum at or below 50 per cent {low}, between {between}, \
+             at or above 75 per cent {high}; with excess {excess}, deficiency {lack}, \
+             neither {neither}, the mean from -2 to 1 um {}; \
+             at a whole mm or one um above it {}",
+            self.near_zero, self.whole_mm
+        )
+    }
 }
 
 impl Tally {
+    /// With or without where the marks lie.
+    pub fn new(sheer: bool) -> Tally {
+        Tally { sheer: sheer.then(Sheer::default), ..Tally::default() }
+    }
+
     pub fn add(&mut self, input: &Input, answer: &Answer) {
         self.inputs += 1;
         self.kinds[input.kind as usize] += 1;
@@ -43,13 +97,18 @@ impl Tally {
                 self.refusals[refusal as usize - 1] += 1;
             }
         }
-        self.add_reductions(input, answer);
+        self.add_steps(input, answer);
     }
 
-    fn add_reductions(&mut self, input: &Input, answer: &Answer) {
+    fn add_steps(&mut self, input: &Input, answer: &Answer) {
         let Ok(ship) = record::read(input.record()) else { return };
-        let reduced = answer.marks[0] == 0 && marks::steps(&ship).depth_reduction > 0;
-        self.reductions.0 += u64::from(reduced);
+        if answer.marks[0] == 0 {
+            let steps = marks::steps(&ship);
+            self.reductions.0 += u64::from(steps.depth_reduction > 0);
+            if let Some(sheer) = &mut self.sheer {
+                sheer.add(&ship, &steps);
+            }
+        }
         // No answer is 0 dm.
         let poop = 100 * answer.poop[2] as i64;
         let earned = 15 * ship.depth < ship.length && 5 * poop >= 4 * ship.length;
@@ -64,8 +123,12 @@ impl Tally {
 
 impl fmt::Display for Tally {
     fn fmt(&self, f: &mut fmt::Formatter) -> fmt::Result {
-        let kinds = [Kind::Valid, Kind::WholeMm, Kind::Border, Kind::Damaged, Kind::Noise]
-            .map(|kind| format!("{} {kind}", self.kinds[kind as usize]));
+        let kinds = match self.sheer {
+            Some(_) => &[Kind::Sheer][..],
+            None => &[Kind::Valid, Kind::WholeMm, Kind::Border, Kind::Damaged, Kind::Noise],
+        };
+        let kinds: Vec<_> =
+            kinds.iter().map(|&kind| format!("{} {kind}", self.kinds[kind as usize])).collect();
         let calls = CALLS.iter().zip(self.calls);
         let calls: Vec<_> = calls
             .map(|(call, (made, accepted))| format!("{made} {call} ({accepted} accepted)"))
@@ -82,7 +145,11 @@ impl fmt::Display for Tally {
             self.reductions.0,
             self.reductions.1,
             refusals.join(", ")
-        )
+        )?;
+        match &self.sheer {
+            Some(sheer) => write!(f, "; {sheer}"),
+            None => Ok(()),
+        }
     }
 }
 
@@ -102,5 +169,22 @@ mod tests {
         }
         let (marks, poops) = tally.reductions;
         assert!(marks >= 250 && poops >= 10, "{tally}");
+    }
+
+    /// Every mark is counted once, and each place has some.
+    #[test]
+    fn marks_about_sheer() {
+        let mut random = Random::new(38);
+        let mut tally = Tally::new(true);
+        for _ in 0..4_000 {
+            let input = Input::draw_sheer(&mut random);
+            tally.add(&input, &judge::worked(&input));
+        }
+        let sheer = tally.sheer.as_ref().expect("it was asked for");
+        for counts in [sheer.after, sheer.mean] {
+            assert_eq!(counts.iter().sum::<u64>(), tally.calls[0].1, "{tally}");
+            assert!(counts.iter().all(|&n| n >= 100), "{tally}");
+        }
+        assert!(sheer.near_zero >= 500 && sheer.whole_mm >= 1_000, "{tally}");
     }
 }

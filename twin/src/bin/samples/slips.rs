@@ -171,6 +171,11 @@ slips! {
     ReductionAfterBow 31 "reduction taken after the bow height",
     FullnessReduction 30 "applied to the reduction too",
     SheerFloor 38 "freeboard never below zero before it",
+    ForwardAboveHalf 38 "forward excess counts whole above 50 per cent",
+    MeanToZeroWhole 38 "mean toward zero where no forward excess counts in part",
+    MeanToZeroPart 38 "mean toward zero where forward excess counts in part",
+    MeanAboveMinusOne 38 "mean between -1 and 0 um taken as 0",
+    AddedByCover 38 "nothing added where no house stands amidships",
 }
 
 fn down(number: i128, divisor: i128) -> i128 {
@@ -661,13 +666,19 @@ impl Working<'_> {
                 Some(Slip::ForwardSteps) if 4 * after_sum < 3 * after_standard => 0,
                 Some(Slip::ForwardSteps) => after_standard,
                 Some(Slip::ForwardFromZero) => (4 * after_sum / 3).clamp(0, after_standard),
+                Some(Slip::ForwardAboveHalf) if 2 * after_sum > after_standard => after_standard,
                 _ => (4 * after_sum - 2 * after_standard).clamp(0, after_standard),
             };
         }
+        let in_part = 0 < credit && credit < after_standard;
         let (after, forward) = (after * after_standard, forward * credit);
         let parts = 30 * 8 * after_standard;
+        let to_zero = (after + forward) / (2 * parts);
         match self.slip {
-            Some(Slip::MeanToZero) => (after + forward) / (2 * parts),
+            Some(Slip::MeanToZero) => to_zero,
+            Some(Slip::MeanToZeroWhole) if !in_part => to_zero,
+            Some(Slip::MeanToZeroPart) if in_part => to_zero,
+            Some(Slip::MeanAboveMinusOne) if to_zero == 0 => 0,
             Some(Slip::HalvesDown) => down(down(after, parts) + down(forward, parts), 2),
             _ => down(after + forward, 2 * parts),
         }
@@ -715,7 +726,11 @@ impl Working<'_> {
         let (l, mean) = (self.l, self.mean());
         let part = 3_000 * l - 2 * covered;
         if mean < 0 {
-            let reach = if self.has(Slip::CoverDeficiency) { self.reach() } else { 2 * l };
+            let reach = match self.slip {
+                Some(Slip::CoverDeficiency) => self.reach(),
+                Some(Slip::AddedByCover) if self.reach() == 0 => 0,
+                _ => 2 * l,
+            };
             return self.up(-mean * part * reach, 8_000 * l * l, Slip::AddedDown);
         }
         let limit = match self.has(Slip::LimitNever) {

@@ -80,9 +80,14 @@ fn search(random: &mut Random, slip: Slip) -> RawShip {
     }
 }
 
-/// The slips in the reduction for depth and about it, the last ones.
+/// The slips in the reduction for depth and about it.
 pub fn in_reduction(slip: Slip) -> bool {
-    slip as usize >= Slip::ReductionNever as usize
+    (Slip::ReductionNever as usize..=Slip::SheerFloor as usize).contains(&(slip as usize))
+}
+
+/// The slips in a shorter working of sheer, the last ones. Cases made by hand are enough for them.
+pub fn in_shorter_sheer(slip: Slip) -> bool {
+    slip as usize > Slip::SheerFloor as usize
 }
 
 /// A short type B ship with seven low houses and a forecastle: E is worth most to it.

@@ -130,9 +130,12 @@ pub fn cases() -> Cases {
     all.group("damaged", damaged::damaged);
     all.group("random", found::every_count);
     // Each slip's ships are drawn after the cases that were there before it, so that these stay.
-    all.group("found", |all| found::for_each_slip(all, |slip| !found::in_reduction(slip)));
+    let earlier = |slip| !found::in_reduction(slip) && !found::in_shorter_sheer(slip);
+    all.group("found", |all| found::for_each_slip(all, earlier));
     low::groups(&mut all);
     all.group("low-found", |all| found::for_each_slip(all, found::in_reduction));
+    all.group("sheer-mean", sheer::mean);
+    all.group("sheer-signs", sheer::signs);
     for &(slip, _, what) in SLIPS {
         assert!(all.told_by(slip).len() >= LEAST, "too few cases tell: {what}");
     }

@@ -1,8 +1,9 @@
 //! Regulation 38.
 
-use super::{deeper, telling, Cases};
-use crate::ships::{decked, forecastle, house, plain, sheer, with, KINDS};
+use super::{deeper, fuller, telling, Cases};
+use crate::ships::{decked, forecastle, house, open, plain, sheer, with, KINDS};
 use crate::slips::Slip;
+use twin::marks::steps;
 use twin::record::RawShip;
 
 /// A ship of 90 m whose whole middle is covered. Standard sums: 2668 and 5336 mm.
@@ -98,4 +99,136 @@ pub fn whole(all: &mut Cases) {
     );
     let flush = RawShip { sheer: sheer(365_000, 70), ..plain(0, 365_000) };
     all.marks("a-longest-little-sheer", &RawShip { moulded: 5_000, ..flush });
+}
+
+/// Ordinates that come to these sums, in the proportions of the standard ones where they can.
+fn summed(after: i64, forward: i64) -> [i64; 6] {
+    let half = |sum: i64| {
+        let inner = (sum * 139 / 667).max((sum - 8_189) / 3);
+        let sixth = inner * 111 / 139;
+        [sum - 3 * inner, sixth, inner - sixth]
+    };
+    let ([ap, ap_sixth, ap_third], [fp, fp_sixth, fp_third]) = (half(after), half(forward));
+    [ap, ap_sixth, ap_third, fp_third, fp_sixth, fp]
+}
+
+/// A ship with a house from 0.4 L to 0.6 L, or from 0.4 L to just short of amidships.
+fn middled(kind: u64, length: u64, reaches: bool, sheer: [i64; 6]) -> RawShip {
+    let l = length as i64;
+    let fore = if reaches { l * 3 / 5 + 1 } else { (l - 1) / 2 };
+    RawShip { sheer, ..decked(kind, length, &[house(l * 2 / 5, fore, 2_000)]) }
+}
+
+/// The ship fuller and fuller, with some depths.
+fn varied(raw: RawShip) -> impl Iterator<Item = RawShip> {
+    deeper(raw).take(8).flat_map(fuller)
+}
+
+/// The first of these ships for which the freeboard is a whole mm, and not for the bow's sake.
+fn whole_mm(raw: RawShip) -> RawShip {
+    let whole = |raw: &RawShip| {
+        let steps = steps(&raw.check().expect("a valid ship"));
+        steps.corrected > steps.bow && steps.corrected % 1000 == 0
+    };
+    varied(raw).find(whole).expect("a freeboard of whole mm")
+}
+
+/// The mean next to zero, where its sign decides, and its rounding with every sort of credit.
+pub fn mean(all: &mut Cases) {
+    let mut put = |kind: u64, length: u64, after: i64, forward: i64, slip: Option<Slip>| {
+        let reaches = (after + forward) % 2 == 0;
+        let raw = middled(kind, length, reaches, summed(after, forward));
+        let raw = match slip {
+            Some(slip) => telling(slip, varied(raw)),
+            None => whole_mm(raw),
+        };
+        let letter = KINDS[kind as usize].1;
+        all.marks(&format!("{letter}-sheer-sums-{after}-{forward}-at-{length}"), &raw);
+    };
+    // Standard sums at 94.003 m: 2757 and 5514 mm, and 1/30000 and 2/30000 more. The mean is -1/160
+    // um, or -1/240 where the after half has excess.
+    let below = Some(Slip::MeanAboveMinusOne);
+    for (kind, after, forward) in [
+        (0, 2_757, 5_514),
+        (1, 2_657, 5_614),
+        (0, 2_068, 6_203),
+        (1, 2_800, 5_514),
+        (0, 2_801, 5_514),
+    ] {
+        put(kind, 94_003, after, forward, below);
+    }
+    // Forward excess that counts in part makes up for nearly all that is lacking after.
+    for (kind, length, after, forward) in [
+        (0, 90_000, 1_887, 6_278),
+        (1, 90_000, 1_413, 15_932),
+        (1, 120_000, 2_223, 8_339),
+        (0, 60_000, 1_201, 5_998),
+    ] {
+        put(kind, length, after, forward, below);
+    }
+    // Or for all of it, or 1/160 um more.
+    for (kind, length, after, forward) in [
+        (1, 90_000, 1_863, 6_351),
+        (0, 90_000, 1_380, 24_012),
+        (0, 120_000, 2_001, 10_005),
+        (1, 60_000, 1_265, 5_394),
+        (0, 25_997, 1_245, 2_490),
+        (1, 25_997, 1_045, 2_690),
+    ] {
+        put(kind, length, after, forward, None);
+    }
+    // A deficiency with whole credit, with none, with no excess at all; and with part of the credit.
+    let (whole, part) = (Some(Slip::MeanToZeroWhole), Some(Slip::MeanToZeroPart));
+    for (kind, length, after, forward, slip) in [
+        (0, 101_000, 2_250, 5_900, whole),
+        (1, 101_000, 2_251, 5_900, whole),
+        (1, 100_000, 1_302, 7_001, whole),
+        (0, 100_000, 1_300, 5_002, whole),
+        (1, 100_000, 2_900, 5_107, whole),
+        (1, 100_000, 1_700, 6_500, part),
+        (0, 100_000, 1_800, 6_301, part),
+        (1, 100_000, 2_101, 6_003, part),
+    ] {
+        put(kind, length, after, forward, slip);
+    }
+    // Just inside 50 and 75 per cent: 1334 and 2001 mm at 90 m, 1445 1/6 and 2167 3/4 mm at 100 m.
+    let inside = Some(Slip::ForwardAboveHalf);
+    for (kind, length, after, forward) in [
+        (0, 90_000, 1_335, 6_103),
+        (1, 90_000, 2_000, 9_000),
+        (1, 100_000, 1_446, 6_200),
+        (0, 100_000, 2_167, 9_001),
+    ] {
+        put(kind, length, after, forward, inside);
+    }
+}
+
+/// Excess, deficiency and neither, with a house that reaches amidships and with none.
+pub fn signs(all: &mut Cases) {
+    let with_ends = |aft, fore, per_cent| RawShip {
+        sheer: sheer(90_000, per_cent),
+        ..decked(1, 90_000, &[house(aft, fore, 2_000)])
+    };
+    for (name, per_cent) in [("little", 80), ("standard", 100), ("great", 120)] {
+        for (fore, reach) in [
+            (44_999, "1-mm-short-of-amidships"),
+            (45_000, "to-amidships"),
+            (45_001, "1-mm-beyond-amidships"),
+        ] {
+            let raw = with_ends(44_000, fore, per_cent);
+            all.marks(&format!("b-sheer-{name}-house-{reach}"), &raw);
+        }
+    }
+    // A house of 1 mm that ends or begins amidships.
+    for (aft, end) in [(44_999, "abaft"), (45_000, "before")] {
+        let raw = telling(Slip::CoverStrict, varied(with_ends(aft, aft + 1, 150)));
+        all.marks(&format!("b-sheer-great-house-of-1-mm-{end}-amidships"), &raw);
+    }
+    for (kind, letter) in KINDS {
+        let bare = RawShip { sheer: sheer(90_000, 80), ..plain(kind, 90_000) };
+        let deep = RawShip { depth: 9_000, moulded: 2_000, ..bare };
+        all.marks(&format!("{letter}-sheer-little-no-house"), &deep);
+        let raw = with(deep, &[open(house(36_000, 54_000, 2_000)), forecastle(90_000)]);
+        all.marks(&format!("{letter}-sheer-little-house-open"), &raw);
+    }
 }

@@ -52,7 +52,7 @@ fn after(a: u64, f: u64, l: Span) -> u64
 }
 
 // What of a forward excess counts: none where the after half has 50 per cent of its standard w or less, all from 75 on. There w cancels; it stays in the
-// divisor only between the two.
+// divisor only where an excess counts in part.
 fn forward(a: u64, f: u64, l: Span) -> Credit
     requires { ⌜ (a ≤ 14 * lift) × (f ≤ 14 * lift) × (l .0 ≤ 365000) ⌝ }
     ensures { λ r. ⌜ frac (r .top) (240 * r .bottom) ≈f above f (standardForward (l .0)) *f forwardShare a (standardAfter (l .0)) ⌝ }
@@ -62,8 +62,8 @@ fn forward(a: u64, f: u64, l: Span) -> Credit
     let w = 667 * (mm + 30000);
     let excess = whole::less(30000 * f, LIFT7 + 1334 * (mm + 30000));
     let part = whole::less(120000 * a, 4 * LIFT7 + 2 * w);
-    let counts = excess * part;
-    if counts == 0 {
+    let counted = excess * part;
+    if counted == 0 {
         return Credit { top: 0, bottom: 1 };
     }
     if w <= part {
@@ -73,7 +73,7 @@ fn forward(a: u64, f: u64, l: Span) -> Credit
         };
     }
     Credit {
-        top: counts,
+        top: counted,
         bottom: w,
     }
 }
@@ -89,7 +89,7 @@ fn lacking(a: u64, f: u64, l: Span) -> u64
         + whole::less(LIFT7 + 1334 * (mm + 30000), 30000 * f)
 }
 
-// (p - q) / d um, rounded down: of its two quotients the one that the sign asks for.
+// (p - q) / d um, rounded down: of the two quotients only the one that the sign asks for.
 fn down(p: u64, q: u64, d: u64) -> Mean
     requires { ⌜ (0 < d) × (d ≤ 126463200000) × (p ≤ 7200000 * d) × (q ≤ 9000000 * d) ⌝ }
     ensures { λ r. ⌜ (r .deficiency .0 ≡ ceilDiv (q - p) d) × (r .excess .0 ≡ (p - q) / d) ⌝ }
@@ -107,7 +107,7 @@ fn down(p: u64, q: u64, d: u64) -> Mean
     }
 }
 
-// The mean of both halves, rounded down. Where the credit's divisor is 1 the mean is over the constant 480, which the compiler multiplies by.
+// The mean of both halves, rounded down. Where the credit's bottom is 1 it is over the constant 480, and the machine has nothing to divide.
 fn mean_of(a: u64, f: u64, l: Span) -> Mean
     requires { ⌜ (a ≤ 14 * lift) × (f ≤ 14 * lift) × (l .0 ≤ 365000) ⌝ }
     ensures { λ r. ⌜ (r .deficiency .0 ≡ deficiency a f (l .0)) × (r .excess .0 ≡ excess a f (l .0)) ⌝ }

@@ -1,4 +1,5 @@
-// Sheer (regulation 38): what the mean adds to the freeboard and what it deducts, one of them 0.
+// Sheer (regulation 38): what the mean adds to the freeboard and what it deducts, one of them 0, so that at most one is divided. The mean comes rounded, as
+// 01 has it: divided here for the first time, the answers would be others, and a deduction's product would pass 2^64.
 ghost use mathlib.Core.Path.{_≡_};
 ghost use Prim.Native.Nat.{_*_, _≤_};
 ghost use Rattle.sheer.specs.Sheer.{addition, deduction};

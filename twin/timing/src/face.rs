@@ -1,4 +1,4 @@
-//! The archive's four calls, as include/loadline.h has them, with the unsafe part kept here.
+//! An archive's four calls, as include/loadline.h has them, with the unsafe part kept here.
 
 use twin::record::{House, RawShip};
 
@@ -65,37 +65,68 @@ pub struct WriteAnswer {
     pub bytes: u64,
 }
 
-extern "C" {
-    fn loadline_marks(record: *const u8, length: usize) -> MarksAnswer;
-    fn loadline_shortest_poop(
-        record: *const u8,
-        length: usize,
-        height: u64,
-        wish: u64,
-    ) -> PoopAnswer;
-    fn loadline_read(record: *const u8, length: usize) -> ReadAnswer;
-    fn loadline_write(buffer: *mut u8, length: usize, ship: FlatShip) -> WriteAnswer;
+/// The four calls of one archive.
+pub trait Calls {
+    fn marks(record: &[u8]) -> MarksAnswer;
+    fn shortest_poop(record: &[u8], height: u64, wish: u64) -> PoopAnswer;
+    fn read(record: &[u8]) -> ReadAnswer;
+    fn write(buffer: &mut [u8], ship: &FlatShip) -> WriteAnswer;
 }
 
 // SAFETY of all four: the pointer and the length are those of one slice, lent for the call alone.
 // The calls take any bytes and any numbers, touch nothing beyond the slice and keep no pointer;
 // only `loadline_write` writes, and its slice is lent to be written.
+macro_rules! archive {
+    ($archive:ident, $marks:literal, $shortest_poop:literal, $read:literal, $write:literal) => {
+        pub struct $archive;
 
-pub fn marks(record: &[u8]) -> MarksAnswer {
-    unsafe { loadline_marks(record.as_ptr(), record.len()) }
+        impl Calls for $archive {
+            fn marks(record: &[u8]) -> MarksAnswer {
+                extern "C" {
+                    #[link_name = $marks]
+                    fn marks(record: *const u8, length: usize) -> MarksAnswer;
+                }
+                unsafe { marks(record.as_ptr(), record.len()) }
+            }
+
+            fn shortest_poop(record: &[u8], height: u64, wish: u64) -> PoopAnswer {
+                extern "C" {
+                    #[link_name = $shortest_poop]
+                    fn poop(record: *const u8, length: usize, height: u64, wish: u64)
+                        -> PoopAnswer;
+                }
+                unsafe { poop(record.as_ptr(), record.len(), height, wish) }
+            }
+
+            fn read(record: &[u8]) -> ReadAnswer {
+                extern "C" {
+                    #[link_name = $read]
+                    fn read(record: *const u8, length: usize) -> ReadAnswer;
+                }
+                unsafe { read(record.as_ptr(), record.len()) }
+            }
+
+            fn write(buffer: &mut [u8], ship: &FlatShip) -> WriteAnswer {
+                extern "C" {
+                    #[link_name = $write]
+                    fn write(buffer: *mut u8, length: usize, ship: FlatShip) -> WriteAnswer;
+                }
+                unsafe { write(buffer.as_mut_ptr(), buffer.len(), *ship) }
+            }
+        }
+    };
 }
 
-pub fn shortest_poop(record: &[u8], height: u64, wish: u64) -> PoopAnswer {
-    unsafe { loadline_shortest_poop(record.as_ptr(), record.len(), height, wish) }
-}
-
-pub fn read(record: &[u8]) -> ReadAnswer {
-    unsafe { loadline_read(record.as_ptr(), record.len()) }
-}
-
-pub fn write(buffer: &mut [u8], ship: &FlatShip) -> WriteAnswer {
-    unsafe { loadline_write(buffer.as_mut_ptr(), buffer.len(), *ship) }
-}
+archive!(Now, "loadline_marks", "loadline_shortest_poop", "loadline_read", "loadline_write");
+// `bench` puts this before each name of the other archive.
+#[cfg(before)]
+archive!(
+    Before,
+    "before_loadline_marks",
+    "before_loadline_shortest_poop",
+    "before_loadline_read",
+    "before_loadline_write"
+);
 
 impl From<&RawShip> for FlatShip {
     fn from(raw: &RawShip) -> FlatShip {

@@ -1,4 +1,5 @@
-//! Times each call of the archive and of the twin on the same inputs, and prints a table.
+//! Times each call of the archive and of the twin on the same inputs, and prints a table. Where it is linked to an
+//! earlier version's archive too, that one is timed beside them.
 
 mod face;
 mod inputs;
@@ -6,6 +7,7 @@ mod inputs;
 use std::hint::black_box;
 use std::time::{Duration, Instant};
 
+use face::{Calls, Now};
 use inputs::Input;
 use twin::{marks, question, record};
 
@@ -19,32 +21,52 @@ const BUFFER: usize = 128;
 /// One pass over the inputs.
 type Pass = fn(&[Input]);
 
-fn main() {
-    let ships = inputs::ships();
-    println!("{:<32}{:>10}{:>10}{:>8}", "call", "archive", "twin", "ratio");
-    row("marks", &ships, archive_marks, twin_marks);
-    row("read", &ships, archive_read, twin_read);
-    row("write", &ships, archive_write, twin_write);
-    let hits = inputs::early_hits();
-    row("question, answer 1 to 10 dm", &hits, archive_question, twin_question);
-    let searches = inputs::full_searches();
-    row("question, refusal 16 at 365 m", &searches, archive_question, twin_question);
+/// The passes of one call: the archive's, the twin's, and the earlier archive's if there is one.
+macro_rules! sides {
+    ($archive:ident, $twin:ident) => {
+        &[
+            $archive::<Now> as Pass,
+            $twin,
+            #[cfg(before)]
+            $archive::<face::Before>,
+        ]
+    };
 }
 
-/// Times both sides, and prints the mean over the inputs in the median round.
-fn row(call: &str, inputs: &[Input], archive: Pass, twin: Pass) {
+fn main() {
+    let earlier =
+        if cfg!(before) { format!("{:>10}{:>8}", "before", "ratio") } else { String::new() };
+    println!("{:<32}{:>10}{:>10}{:>8}{earlier}", "call", "archive", "twin", "ratio");
+    let ships = inputs::ships();
+    row("marks", &ships, sides!(archive_marks, twin_marks));
+    row("read", &ships, sides!(archive_read, twin_read));
+    row("write", &ships, sides!(archive_write, twin_write));
+    let hits = inputs::early_hits();
+    row("question, answer 1 to 10 dm", &hits, sides!(archive_question, twin_question));
+    let searches = inputs::full_searches();
+    row("question, refusal 16 at 365 m", &searches, sides!(archive_question, twin_question));
+}
+
+/// Times all sides, and prints the mean over the inputs in the median round. An earlier version may have other answers.
+fn row(call: &str, inputs: &[Input], sides: &[Pass]) {
     assert!(inputs.iter().all(agree), "the two sides do not agree");
-    let passes = passes(inputs, archive).max(passes(inputs, twin));
-    let mut times = [Vec::new(), Vec::new()];
-    for round in 0..2 * ROUNDS {
+    let passes = sides.iter().map(|&side| passes(inputs, side)).max().unwrap_or(1);
+    let mut times = vec![Vec::new(); sides.len()];
+    for round in 0..ROUNDS {
         // The sides take turns, and take turns at going first.
-        let side = (round + round / 2) % 2;
-        let time = time(inputs, [archive, twin][side], passes);
-        times[side].push(time.as_nanos() as f64 / (passes * inputs.len()) as f64);
+        for turn in 0..sides.len() {
+            let side = (round + turn) % sides.len();
+            let time = time(inputs, sides[side], passes);
+            times[side].push(time.as_nanos() as f64 / (passes * inputs.len()) as f64);
+        }
     }
-    let [archive, twin] = times.map(median);
-    let ratio = archive / twin;
-    println!("{call:<32}{:>10}{:>10}{ratio:>8.2}", shown(archive), shown(twin));
+    let times: Vec<f64> = times.into_iter().map(median).collect();
+    let (archive, twin) = (times[0], times[1]);
+    print!("{call:<32}{:>10}{:>10}{:>8.2}", shown(archive), shown(twin), archive / twin);
+    for &before in &times[2..] {
+        print!("{:>10}{:>8.2}", shown(before), before / twin);
+    }
+    println!();
 }
 
 /// Times of different work would say nothing.
@@ -52,11 +74,11 @@ fn agree(input: &Input) -> bool {
     let summer = record::read(&input.record).and_then(|ship| marks::marks(&ship)).map(|m| m.summer);
     let poop = question::shortest_poop(&input.record, input.height, input.wish);
     let mut buffer = [0; BUFFER];
-    let written = face::write(&mut buffer, &input.flat).bytes as usize;
-    face::marks(&input.record).s == summer.unwrap_or(0)
-        && face::shortest_poop(&input.record, input.height, input.wish).decimetres as i64
+    let written = Now::write(&mut buffer, &input.flat).bytes as usize;
+    Now::marks(&input.record).s == summer.unwrap_or(0)
+        && Now::shortest_poop(&input.record, input.height, input.wish).decimetres as i64
             == poop.unwrap_or(0)
-        && face::read(&input.record).ship.length == input.raw.length
+        && Now::read(&input.record).ship.length == input.raw.length
         && buffer[..written] == input.record
 }
 
@@ -90,9 +112,9 @@ fn shown(ns: f64) -> String {
     }
 }
 
-fn archive_marks(inputs: &[Input]) {
+fn archive_marks<A: Calls>(inputs: &[Input]) {
     for input in inputs {
-        black_box(&face::marks(&input.record));
+        black_box(&A::marks(&input.record));
     }
 }
 
@@ -102,9 +124,9 @@ fn twin_marks(inputs: &[Input]) {
     }
 }
 
-fn archive_read(inputs: &[Input]) {
+fn archive_read<A: Calls>(inputs: &[Input]) {
     for input in inputs {
-        black_box(&face::read(&input.record));
+        black_box(&A::read(&input.record));
     }
 }
 
@@ -114,10 +136,10 @@ fn twin_read(inputs: &[Input]) {
     }
 }
 
-fn archive_write(inputs: &[Input]) {
+fn archive_write<A: Calls>(inputs: &[Input]) {
     let mut buffer = [0; BUFFER];
     for input in inputs {
-        black_box(&face::write(&mut buffer, &input.flat));
+        black_box(&A::write(&mut buffer, &input.flat));
         black_box(&mut buffer);
     }
 }
@@ -130,9 +152,9 @@ fn twin_write(inputs: &[Input]) {
     }
 }
 
-fn archive_question(inputs: &[Input]) {
+fn archive_question<A: Calls>(inputs: &[Input]) {
     for input in inputs {
-        black_box(&face::shortest_poop(&input.record, input.height, input.wish));
+        black_box(&A::shortest_poop(&input.record, input.height, input.wish));
     }
 }
 

@@ -1,4 +1,5 @@
-//! Links the archive that stands in the folder ARCHIVE, and the one of an earlier version in the folder BEFORE if there is one.
+//! Links the archive that stands in the folder ARCHIVE, and an earlier version's, told apart by
+//! `bench`, in the folder BEFORE if there is one.
 
 fn main() {
     let folder = std::env::var("ARCHIVE").expect("ARCHIVE names the folder of libface.a");

@@ -1,4 +1,4 @@
--- 02: the figures that its requests and their readings state, in the same form. A row has the request's number.
+-- 02: the figures that its requests and their readings state, in the same form; for §8, which states none, figures worked by hand. A row has the request's number.
 use Prim.Native.Nat.{ℕ, _+_, _*_}
 use mathlib.Core.List.{List, [], _∷_}
 use Rattle.whole.specs.Frac.{ceil}
@@ -28,8 +28,8 @@ r4 =
 abbrev pub asked4 : ℕ → Reply
 asked4 wish = replyIn r4 2300 wish
 
--- ---- §8: it states none; these are worked by hand at the borders of its cancelling. The mean of a ship of 90 m, by its after sum in mm: 50 and 75 per cent of
--- standard are 1334 and 2001 mm. The forward sum is 800 mm above standard, an excess of 100 mm
+-- ---- §8: the borders of its cancelling. The mean of a ship of 90 m, by its after sum in mm: 50 and 75 per cent of standard are 1334 and 2001 mm. The forward
+-- sum is 800 mm above standard, an excess of 100 mm
 abbrev pub lacks8 : ℕ → ℕ
 lacks8 after = deficiency (7 * lift + after) (7 * lift + 6136) 90000
 

@@ -74,7 +74,7 @@ after-whole a f L t =
     simp (lacks-test f (1334 * (L + 30000)) (standardForward L) (forward-same L), le-ltb (30000 * f) (lift7 + 1334 * (L + 30000)) t)
     (above-same a (667 * (L + 30000)) (standardAfter L) (after-same L))
 
--- ---- what of a forward excess counts, top / bottom: g / 240 times the share n / w, which is at most 1. Where one of the two is 0 or the share is 1, w cancels
+-- ---- what of a forward excess counts, top / bottom: g / 240 times the share, n / w but at most 1. Where one of the two is 0 or the share is 1, w cancels
 module _ (a f L g n : ℕ) (p : g ≡ 30000 * f - (lift7 + 1334 * (L + 30000))) (q : n ≡ 120000 * a - (4 * lift7 + 2 * (667 * (L + 30000)))) where
   credit : (top bottom : ℕ) → 0 < bottom → top * (667 * (L + 30000)) ≡ g * min (667 * (L + 30000)) n * bottom
       → frac top (240 * bottom) ≈f above f (standardForward L) *f forwardShare a (standardAfter L)

@@ -61,6 +61,7 @@ fn forward(a: u64, f: u64, l: Span) -> Credit
     let mm = l.0;
     let w = 667 * (mm + 30000);
     let excess = whole::less(30000 * f, LIFT7 + 1334 * (mm + 30000));
+    // So many of w: 4 times what the after sum has above 50 per cent of w, which is w at 75 per cent.
     let part = whole::less(120000 * a, 4 * LIFT7 + 2 * w);
     let counted = excess * part;
     if counted == 0 {
@@ -107,7 +108,8 @@ fn down(p: u64, q: u64, d: u64) -> Mean
     }
 }
 
-// The mean of both halves, rounded down. Where the credit's bottom is 1 it is over the constant 480, and the machine has nothing to divide.
+// The mean of both halves, rounded down. Where the credit's bottom is 1 it is over the constant 480, by which the compiler divides with a product, as long as it
+// works `down` in place.
 fn mean_of(a: u64, f: u64, l: Span) -> Mean
     requires { ⌜ (a ≤ 14 * lift) × (f ≤ 14 * lift) × (l .0 ≤ 365000) ⌝ }
     ensures { λ r. ⌜ (r .deficiency .0 ≡ deficiency a f (l .0)) × (r .excess .0 ≡ excess a f (l .0)) ⌝ }

@@ -1,5 +1,5 @@
-//! Times each call of the archive and of the twin on the same inputs, and prints a table. Where it is linked to an
-//! earlier version's archive too, that one is timed beside them.
+//! Times each call of the archive and of the twin on the same inputs, and prints a table. Where it is
+//! linked to an earlier version's archive too, that one is timed beside them.
 
 mod face;
 mod inputs;
@@ -47,7 +47,8 @@ fn main() {
     row("question, refusal 16 at 365 m", &searches, sides!(archive_question, twin_question));
 }
 
-/// Times all sides, and prints the mean over the inputs in the median round. An earlier version may have other answers.
+/// Times all sides, and prints the mean over the inputs in the median round. An earlier version may
+/// have other answers.
 fn row(call: &str, inputs: &[Input], sides: &[Pass]) {
     assert!(inputs.iter().all(agree), "the two sides do not agree");
     let passes = sides.iter().map(|&side| passes(inputs, side)).max().unwrap_or(1);

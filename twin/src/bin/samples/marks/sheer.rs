@@ -166,7 +166,8 @@ pub fn mean(all: &mut Cases) {
     ] {
         put(kind, length, after, forward, below);
     }
-    // Or for all of it, or 1/160 um more.
+    // Or for all of it. At 25.997 m both halves stand just above standard, or one makes up for the
+    // other with whole credit: the mean is 1/160 um.
     for (kind, length, after, forward) in [
         (1, 90_000, 1_863, 6_351),
         (0, 90_000, 1_380, 24_012),
@@ -177,7 +178,7 @@ pub fn mean(all: &mut Cases) {
     ] {
         put(kind, length, after, forward, None);
     }
-    // A deficiency with whole credit, with none, with no excess at all; and with part of the credit.
+    // A deficiency with whole credit, with none, with no excess that counts; and with part of the credit.
     let (whole, part) = (Some(Slip::MeanToZeroWhole), Some(Slip::MeanToZeroPart));
     for (kind, length, after, forward, slip) in [
         (0, 101_000, 2_250, 5_900, whole),

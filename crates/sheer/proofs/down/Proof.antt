@@ -16,7 +16,7 @@ down-spec =
       (c .div-up .ensures, omega (arith, floor-most (a .p - a .q) (a .d) 0 (omega arith))),
       (rw (c .div-up .ensures) (ceil-most (a .q - a .p) (a .d) 9000000 (omega arith) (omega arith)), omega arith),
     ))
-    (λ c. search needs)
+    (λ c. omega arith)
     (λ c. let a = c .before .args in (
       (omega (arith, ceil-most (a .q - a .p) (a .d) 0 (omega arith) (omega arith)), refl),
       (omega arith, floor-most (a .p - a .q) (a .d) 7200000 (omega arith)),

@@ -1,4 +1,4 @@
-use mathlib.Core.Path.{sym, _∙_}
+use mathlib.Core.Path.{_≡_, sym, _∙_}
 use Prim.Native.Nat.{_*_, _-_}
 use native.Mathlib.Omega.{arith}
 use borrow.Author.Needs.{needs}
@@ -11,7 +11,9 @@ pub add-spec : {M : Type 1} → statement M
 add-spec =
     tie.close
     (tie.spec
-    (λ c. let a = c .before .args in (rw (c .if1 .taken) (sym (none-added (a .l .0) (a .s .0))), omega arith))
+    (λ c. let a = c .before .args in
+    let z : a .deficiency .0 ≡ 0 = omega arith in
+    (rw z (sym (none-added (a .l .0) (a .s .0))), omega arith))
     (λ c. search needs)
     (λ c. search needs)
     (λ c. search needs)

@@ -21,7 +21,8 @@
  * A proved archive is known by what ./library prints beside it: the kit that proved it (rt version), the commit and the
  * archive's SHA-256.
  *
- * Refusals. The order is the order of the checks: the first that applies is given. The place is 0 where none is named.
+ * Refusals. The first that applies is given, in the order of these lines. The place is 0 where none is named, and the overlap is 0
+ * beside every refusal but 11.
  * Calls: M loadline_marks, P loadline_shortest_poop, R loadline_read, W loadline_write.
  *
  *   No.  When                                                              Place                         Calls
@@ -38,7 +39,11 @@
  *        above L + 20000, height outside 1 to 8191                         first such house, from 0      M P R W
  *   10   raised quarterdeck: not enclosed, aft end above 0,
  *        or fore end at or above L                                         first such house, from 0      M P R W
- *   11   aft end below the previous house's fore end                       first such later house        M P R W
+ *        aft end below the previous house's fore end: the first such
+ *        house decides which of the two is given
+ *   18   out of order: its aft end is below the previous one's aft end too that house                    M P R W
+ *   11   otherwise overlap, with the mm that lie in both houses: the
+ *        smaller of their fore ends minus the later aft end                that house                    M P R W
  *   12   summer mark at or above D                                                                       M
  *   13   fresh allowance above summer draught                                                            M
  *   14   poop's height outside 1 to 8191, or wish outside 50 to 60000                                    P
@@ -75,7 +80,8 @@ enum loadline_refusal {
     LOADLINE_QUESTION_RANGE = 14,
     LOADLINE_NO_ROOM_FOR_POOP = 15,
     LOADLINE_NO_LENGTH_FITS = 16,
-    LOADLINE_SHORT_BUFFER = 17
+    LOADLINE_SHORT_BUFFER = 17,
+    LOADLINE_OUT_OF_ORDER = 18
 };
 
 /* A record has 27 + 8n bytes for n houses. To take one from a file, read up to LOADLINE_MOST_BYTES + 1 bytes: the one more
@@ -107,45 +113,46 @@ typedef struct {
     loadline_house houses[LOADLINE_MOST_HOUSES];     /* the first n, in order from aft; they may touch, not overlap */
 } loadline_ship;
 
-/* Every answer begins with the refusal's number, 0 for none, and its place. Beside a refusal all else is 0. */
+/* Every answer begins with the refusal's number, 0 for none, its place, and for 11 the overlap in mm, at least 1. Beside a refusal
+ * all else is 0. */
 typedef struct {
-    uint64_t refusal, place;
+    uint64_t refusal, place, overlap;
     int64_t s, t, w, wna, f, tf;    /* freeboards, mm: summer, tropical, winter, winter North Atlantic, fresh,
                                        tropical fresh. s and t are at least 50; f and tf may be negative */
 } loadline_marks_answer;
 
 typedef struct {
-    uint64_t refusal, place;
+    uint64_t refusal, place, overlap;
     uint64_t decimetres;            /* the poop's length, dm; 0: none is needed */
 } loadline_poop_answer;
 
 typedef struct {
-    uint64_t refusal, place;
+    uint64_t refusal, place, overlap;
     loadline_ship ship;             /* places beyond n are 0 */
 } loadline_read_answer;
 
 typedef struct {
-    uint64_t refusal, place;
+    uint64_t refusal, place, overlap;
     uint64_t bytes;                 /* the record's length, 27 + 8n */
 } loadline_write_answer;
 
 /* In all calls the pointer is to `length` bytes; with length 0 it may be NULL. A record is never changed. */
 
 /* The six marks of a record. S is never below the value worked without rounding, and less than 1.1 mm above it.
- * Refuses 1 to 13. */
+ * Refuses 1 to 13 and 18. */
 loadline_marks_answer loadline_marks(const uint8_t *record, size_t length);
 
 /* The shortest poop for which the record's ship would have marks with S at most `wish` mm: an enclosed house of `height` mm
  * from the after perpendicular, set before the others, in whole decimetres up to L. Every shorter one has been ruled out.
- * Refuses 1 to 11, then 14 to 16. The record's own marks need not exist: 12 and 13 are no refusals here. */
+ * Refuses 1 to 11 and 18, then 14 to 16. The record's own marks need not exist: 12 and 13 are no refusals here. */
 loadline_poop_answer loadline_shortest_poop(const uint8_t *record, size_t length, uint64_t height, uint64_t wish);
 
-/* The ship of a record. Writing it gives the same bytes back. Refuses 1 to 11. */
+/* The ship of a record. Writing it gives the same bytes back. Refuses 1 to 11 and 18. */
 loadline_read_answer loadline_read(const uint8_t *record, size_t length);
 
 /* Writes the ship's record at the buffer's start. Reading it gives the ship back. Places beyond n are ignored. An accepted
  * write changes the first `bytes` bytes only, a refused one none. A number too big for the record is refused as any other
- * outside its range. Refuses 3, 4, 7 to 11 and 17; 17 comes last, so that a short buffer hides no fault of the ship. */
+ * outside its range. Refuses 3, 4, 7 to 11, 18 and 17; 17 comes last, so that a short buffer hides no fault of the ship. */
 loadline_write_answer loadline_write(uint8_t *buffer, size_t length, loadline_ship ship);
 
 #ifdef __cplusplus

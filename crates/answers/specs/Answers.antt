@@ -1,4 +1,4 @@
--- The answers of the calls for C: 01's numbers laid out flat. Refusal 0 refuses nothing; beside any other all else is zero.
+-- The answers of the calls for C: the papers' numbers laid out flat. Refusal 0 refuses nothing; beside any other all else is zero.
 use Prim.Native.Nat.{_^_, _<_}
 use mathlib.Core.Path.{_≡_}
 use lib.Dec.{eqb}
@@ -23,6 +23,7 @@ unfoldable pub fromSheet : Sheet → MarksAnswer
 fromSheet a = record {
   refusal = a .verdict .number;
   place = a .verdict .place;
+  overlap = a .verdict .overlap;
   s = pos (a .marks .s);
   t = pos (a .marks .t);
   w = pos (a .marks .w);
@@ -43,11 +44,11 @@ pub record Small (m : Marks) : Type 0 where
   pub wna : m .wna < 2 ^ 32
 
 unfoldable pub fromReply : Reply → PoopAnswer
-fromReply a = record { refusal = a .verdict .number; place = a .verdict .place; decimetres = a .decimetres }
+fromReply a = record { refusal = a .verdict .number; place = a .verdict .place; overlap = a .verdict .overlap; decimetres = a .decimetres }
 
 unfoldable pub fromReading : Reading → ReadAnswer
-fromReading a = record { refusal = a .verdict .number; place = a .verdict .place; ship = shipOf (a .ship) }
+fromReading a = record { refusal = a .verdict .number; place = a .verdict .place; overlap = a .verdict .overlap; ship = shipOf (a .ship) }
 
 -- with the record's length
 unfoldable pub fromVerdict : Paper → Ship → WriteAnswer
-fromVerdict p x = record { refusal = p .number; place = p .place; bytes = pick (eqb (p .number) 0) (recordLength (x .n)) 0 }
+fromVerdict p x = record { refusal = p .number; place = p .place; overlap = p .overlap; bytes = pick (eqb (p .number) 0) (recordLength (x .n)) 0 }

@@ -22,6 +22,7 @@ use ship::refusal::Verdict;
 pub struct MarksAnswer {
     pub refusal: u64,
     pub place: u64,
+    pub overlap: u64,
     pub s: i64,
     pub t: i64,
     pub w: i64,
@@ -35,6 +36,7 @@ pub struct MarksAnswer {
 pub struct PoopAnswer {
     pub refusal: u64,
     pub place: u64,
+    pub overlap: u64,
     pub decimetres: u64,
 }
 
@@ -43,6 +45,7 @@ pub struct PoopAnswer {
 pub struct ReadAnswer {
     pub refusal: u64,
     pub place: u64,
+    pub overlap: u64,
     pub ship: FlatShip,
 }
 
@@ -51,6 +54,7 @@ pub struct ReadAnswer {
 pub struct WriteAnswer {
     pub refusal: u64,
     pub place: u64,
+    pub overlap: u64,
     pub bytes: u64,
 }
 
@@ -65,6 +69,7 @@ pub fn marked(m: Marks) -> MarksAnswer
     MarksAnswer {
         refusal: 0,
         place: 0,
+        overlap: 0,
         s,
         t,
         w,
@@ -80,6 +85,7 @@ pub fn unmarked(r: Refusal) -> MarksAnswer
     MarksAnswer {
         refusal: refusal::number(r),
         place: refusal::place(r),
+        overlap: refusal::overlap(r),
         s: 0,
         t: 0,
         w: 0,
@@ -97,17 +103,19 @@ pub fn poop_of(a: question::Answer) -> PoopAnswer
         question::Answer::Poop(k) => PoopAnswer {
             refusal: 0,
             place: 0,
+            overlap: 0,
             decimetres: k,
         },
         question::Answer::Refused(r) => PoopAnswer {
             refusal: refusal::number(r),
             place: refusal::place(r),
+            overlap: refusal::overlap(r),
             decimetres: 0,
         },
     }
 }
 
-// A verdict's number and place, 0 where nothing is refused.
+// A verdict's number, place and overlap, 0 where nothing is refused.
 pub fn number_of(v: Verdict) -> u64
     ensures { λ r. ⌜ r ≡ paper v .number ⌝ }
 {
@@ -123,6 +131,15 @@ pub fn place_of(v: Verdict) -> u64
     match v {
         Verdict::Accepted => 0,
         Verdict::Refused(r) => refusal::place(r),
+    }
+}
+
+pub fn overlap_of(v: Verdict) -> u64
+    ensures { λ r. ⌜ r ≡ paper v .overlap ⌝ }
+{
+    match v {
+        Verdict::Accepted => 0,
+        Verdict::Refused(r) => refusal::overlap(r),
     }
 }
 

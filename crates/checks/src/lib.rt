@@ -1,14 +1,15 @@
-// Checks 7 to 11 on a ship, and 9 to 11 on a list of houses with L alone.
+// Checks 7 to 11 and 18 on a ship, and those of the houses on a list with L alone.
 ghost use mathlib.Core.Bool.{true};
 ghost use mathlib.Core.Path.{_≡_};
 ghost use Prim.Native.Nat.{_≤_};
 ghost use lib.ListN.{take};
 ghost use Rattle.ship.specs.Refusals.{paper, first};
-ghost use Rattle.ship.specs.Checks.{firstBreach, houseLines, shipLines};
+ghost use Rattle.ship.specs.Checks.{firstBreach, orderLines, houseLines, shipLines};
 ghost use Rattle.ship.specs.declared.rule.Rule.{Rule};
 use field_checks::of_fields;
 use house_checks::breaks_any;
 use house_checks::house_breaks;
+use house_checks::misplaced;
 use ship::House;
 use ship::Ship;
 use ship::refusal;
@@ -54,7 +55,21 @@ fn all_keep(l: Span, houses: [House; 8], n: usize) -> bool
     true
 }
 
-// Checks 9 to 11 on the first `n` houses, from the table's last line up.
+// Checks 11 and 18 on the first `n` houses: the first that reaches back over the one before it decides.
+fn in_order(l: Span, houses: [House; 8], n: usize) -> Verdict
+    requires { ⌜ (l .0 ≤ 365000) × (n ≤ 8) ⌝ }
+    ensures { λ v. ⌜ paper v ≡ first (orderLines (l .0) (take n houses)) ⌝ }
+{
+    let k = first_breach(Rule::Follows, l, houses, n);
+    if k < n {
+        let before = houses[k - 1];
+        let h = houses[k];
+        return Verdict::Refused(misplaced(k, before, h));
+    }
+    Verdict::Accepted
+}
+
+// Checks 9 to 11 and 18 on the first `n` houses, each over all of them before the next.
 pub fn of_houses(l: Span, houses: [House; 8], n: usize) -> Verdict
     requires { ⌜ (l .0 ≤ 365000) × (n ≤ 8) ⌝ }
     ensures { λ v. ⌜ paper v ≡ first (houseLines (l .0) (take n houses)) ⌝ }
@@ -64,13 +79,13 @@ pub fn of_houses(l: Span, houses: [House; 8], n: usize) -> Verdict
     }
     let ends = first_breach(Rule::EndsAndHeight, l, houses, n);
     let deck = first_breach(Rule::RaisedQuarterdeck, l, houses, n);
-    let lap = first_breach(Rule::NoOverlap, l, houses, n);
-    let v = refusal::line(lap < n, Refusal::Overlap(lap), Verdict::Accepted);
-    let v = refusal::line(deck < n, Refusal::Quarterdeck(deck), v);
-    refusal::line(ends < n, Refusal::HouseExtent(ends), v)
+    let nine = refusal::line(ends < n, Refusal::HouseExtent(ends), Verdict::Accepted);
+    let ten = refusal::line(deck < n, Refusal::Quarterdeck(deck), Verdict::Accepted);
+    let order = in_order(l, houses, n);
+    refusal::after(nine, refusal::after(ten, order))
 }
 
-// Checks 7 to 11. The houses' own can be worked only once L is known to be in its range.
+// Checks 7 to 11 and 18. The houses' own can be worked only once L is known to be in its range.
 pub fn of_ship(x: Ship) -> Verdict
     requires { ⌜ x .n ≤ 8 ⌝ }
     ensures { λ v. ⌜ paper v ≡ first (shipLines x) ⌝ }

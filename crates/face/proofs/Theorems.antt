@@ -60,7 +60,7 @@ module _ (buf : List ℕ) (x : Ship) (shaped : RoundTrip.Shaped x) (z : writingO
 pub read-back : (buf : List ℕ) (f : FlatShip) → Shaped f
     → let x = shipFrom f in let p = writingOf (length buf) x in
     (a : WriteAnswer) → a ≡ fromVerdict p x → a .refusal ≡ 0 → (after : List ℕ) → after ≡ written p x buf
-    → fromReading (readingIn (take (a .bytes) after)) ≡ record { refusal = 0; place = 0; ship = flatClean f }
+    → fromReading (readingIn (take (a .bytes) after)) ≡ record { refusal = 0; place = 0; overlap = 0; ship = flatClean f }
 unfolding fromReading fromVerdict pick
 read-back buf f q a e z after t =
     let x = shipFrom f in
@@ -89,7 +89,7 @@ read-whole s e =
 pub written-back : (s : List ℕ) → Bytes s → (a : ReadAnswer) → a ≡ fromReading (readingIn s) → a .refusal ≡ 0
     → (buf : List ℕ) → length s ≤ length buf
     → let x = shipFrom (a .ship) in let p = writingOf (length buf) x in
-    (fromVerdict p x ≡ record { refusal = 0; place = 0; bytes = length s }) × (written p x buf ≡ s ++ drop (length s) buf)
+    (fromVerdict p x ≡ record { refusal = 0; place = 0; overlap = 0; bytes = length s }) × (written p x buf ≡ s ++ drop (length s) buf)
 unfolding fromReading fromVerdict pick
 written-back s b a e z buf h =
     let n : readingIn s .verdict .number ≡ 0 = sym (ap (λ (r : ReadAnswer). r .refusal) e) ∙ z in
@@ -98,7 +98,7 @@ written-back s b a e z buf h =
     let r = read-whole s n in
     let w = write-what-was-read s x b r buf h in
     let l = sym (RoundTrip.length-there s x r) in (
-      ap (λ (y : Ship). fromVerdict (writingOf (length buf) y) y) same ∙ ap (λ (p : Paper). fromVerdict p x) (w .0) ∙ (λ i. record { refusal = 0; place = 0; bytes = l i }),
+      ap (λ (y : Ship). fromVerdict (writingOf (length buf) y) y) same ∙ ap (λ (p : Paper). fromVerdict p x) (w .0) ∙ (λ i. record { refusal = 0; place = 0; overlap = 0; bytes = l i }),
       ap (λ (y : Ship). written (writingOf (length buf) y) y buf) same ∙ w .1,
     )
 

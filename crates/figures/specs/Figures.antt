@@ -13,6 +13,7 @@ use Rattle.tabular.specs.Tabular.{tabular}
 use Rattle.percentages.specs.Table37.{ordinaryRow}
 use Rattle.ship.specs.declared.House.{House}
 use Rattle.ship.specs.declared.Ship.{Ship}
+use Rattle.ship.specs.Refusals.{Paper}
 use Rattle.record.specs.Layout.{headFields, headIn, houseFields, houseIn, houseAt, shipIn}
 use Rattle.houses.specs.Length.{coveredLength}
 use Rattle.houses.specs.Height.{standardHeight}
@@ -50,8 +51,12 @@ particulars =
 unfoldable pub k1 : List ℕ
 k1 = 0x14 ∷ 0x00 ∷ particulars
 
+-- k2's house
+abbrev pub forecastle : List ℕ
+forecastle = 0x82 ∷ 0x71 ∷ 0x00 ∷ 0x15 ∷ 0xf9 ∷ 0x03 ∷ 0xe8 ∷ 0x00 ∷ []
+
 unfoldable pub k2 : List ℕ
-k2 = 0x14 ∷ 0x40 ∷ particulars ++ (0x82 ∷ 0x71 ∷ 0x00 ∷ 0x15 ∷ 0xf9 ∷ 0x03 ∷ 0xe8 ∷ 0x00 ∷ [])
+k2 = 0x14 ∷ 0x40 ∷ particulars ++ forecastle
 
 -- the fields of the head, in the record's order: version, type, n, spare, fields 1 to 13
 abbrev pub headRow : ℕ → List ℕ → ℕ → Row
@@ -74,19 +79,21 @@ bowHeightOf x = bowHeight (x .length .0) (x .moulded .0) (counted (x .block)) (x
 abbrev pub deductionOf : Ship → ℕ
 deductionOf x = deducted (typeB x) ordinaryRow (exactEffective (x .length .0) (forecastleHouse x)) (x .length .0) (effectiveE x)
 
--- ---- what the two calls answer: the number and place of the refusal, both 0 where there is none; then the marks, or the length
+-- ---- what the calls answer: number, place and overlap of the refusal, all 0 where there is none; then the marks, or the length
+abbrev pub refusalOf : Paper → List ℕ
+refusalOf p = p .number ∷ p .place ∷ p .overlap ∷ []
+
 unfoldable pub marksRow : ℕ → Sheet → List ℕ → Row
 marksRow k a stated =
     let m = a .marks in
     record {
       figure = k;
-      given =
-          pos (a .verdict .number) ∷ pos (a .verdict .place) ∷ pos (m .s) ∷ pos (m .t) ∷ pos (m .w) ∷ pos (m .wna) ∷ m .f ∷ m .tf ∷ [];
+      given = map pos (refusalOf (a .verdict)) ++ (pos (m .s) ∷ pos (m .t) ∷ pos (m .w) ∷ pos (m .wna) ∷ m .f ∷ m .tf ∷ []);
       stated = map pos stated;
     }
 
 unfoldable pub askedRow : ℕ → Reply → List ℕ → Row
-askedRow k a stated = row k (a .verdict .number ∷ a .verdict .place ∷ a .decimetres ∷ []) stated
+askedRow k a stated = row k (refusalOf (a .verdict) ++ (a .decimetres ∷ [])) stated
 
 -- k3 to k6 ask of k2's record, with a poop of 1950 mm
 abbrev pub asked : ℕ → Reply
@@ -122,11 +129,11 @@ figures =
     headRow 1 k1 0
     ∷ one 1 (beforeBow (shipIn k1)) 1101250
     ∷ one 1 (bowHeightOf (shipIn k1)) 4029337
-    ∷ marksRow 1 (sheetIn k1) (0 ∷ 0 ∷ 2030 ∷ 1948 ∷ 2113 ∷ 2163 ∷ 1948 ∷ 1866 ∷ [])
+    ∷ marksRow 1 (sheetIn k1) (0 ∷ 0 ∷ 0 ∷ 2030 ∷ 1948 ∷ 2113 ∷ 2163 ∷ 1948 ∷ 1866 ∷ [])
     ∷ headRow 2 k2 1
     ∷ row 2 (houseFields (houseIn (houseAt k2 0))) (1 ∷ 0 ∷ 80000 ∷ 90000 ∷ 2000 ∷ 0 ∷ [])
     ∷ one 2 (deductionOf (shipIn k2)) 69095
-    ∷ marksRow 2 (sheetIn k2) (0 ∷ 0 ∷ 1024 ∷ 921 ∷ 1128 ∷ 1178 ∷ 921 ∷ 818 ∷ [])
+    ∷ marksRow 2 (sheetIn k2) (0 ∷ 0 ∷ 0 ∷ 1024 ∷ 921 ∷ 1128 ∷ 1178 ∷ 921 ∷ 818 ∷ [])
     ∷ one 7 (tabular table28A 61500) 593500
     ∷ one 7 (tabular table28B 61500) 594000
     ∷ one 8 (depthAddition 100000 6666) 0
@@ -137,11 +144,11 @@ figures =
     ∷ one 11 (sheerAdds level []) 375188
     ∷ one 12 (sheerDeducts doubled []) 0
     ∷ one 12 (sheerDeducts doubled (house 36000 54000 2000 ∷ [])) 112500
-    ∷ askedRow 3 (asked 1000) (0 ∷ 0 ∷ 31 ∷ [])
+    ∷ askedRow 3 (asked 1000) (0 ∷ 0 ∷ 0 ∷ 31 ∷ [])
     ∷ one 3 (summerOf (withPoop 1950 30 (shipIn k2))) 1001
-    ∷ askedRow 4 (asked 1024) (0 ∷ 0 ∷ 0 ∷ [])
-    ∷ askedRow 5 (asked 187) (0 ∷ 0 ∷ 800 ∷ [])
-    ∷ askedRow 6 (asked 50) (16 ∷ 0 ∷ 0 ∷ [])
+    ∷ askedRow 4 (asked 1024) (0 ∷ 0 ∷ 0 ∷ 0 ∷ [])
+    ∷ askedRow 5 (asked 187) (0 ∷ 0 ∷ 0 ∷ 800 ∷ [])
+    ∷ askedRow 6 (asked 50) (16 ∷ 0 ∷ 0 ∷ 0 ∷ [])
     ∷ []
 
 -- ---- the test that all rows agree

@@ -1,10 +1,13 @@
-// Checks 9, 10 and 11 on one house.
+// Checks 9, 10 and 11 or 18 on one house.
 ghost use mathlib.Core.Bool.{_||_};
 ghost use mathlib.Core.Path.{_≡_};
 ghost use Prim.Native.Nat.{_≤_};
-ghost use Rattle.ship.specs.Checks.{breaks, badEnds, badQuarterdeck};
-ghost use Rattle.ship.specs.declared.rule.Rule.the-variants.{EndsAndHeight, RaisedQuarterdeck, NoOverlap};
+ghost use Rattle.whole.specs.Pick.{pick};
+ghost use Rattle.ship.specs.Refusals.{refused, overlapping, refusedAs};
+ghost use Rattle.ship.specs.Checks.{breaks, badEnds, badQuarterdeck, outOfOrder, overlapBetween};
+ghost use Rattle.ship.specs.declared.rule.Rule.the-variants.{EndsAndHeight, RaisedQuarterdeck, Follows};
 use ship::House;
+use ship::refusal::Refusal;
 use ship::rule::Rule;
 use units::Span;
 use units::Station;
@@ -61,7 +64,7 @@ pub fn house_breaks(rule: Rule, l: Span, before: Station, h: House) -> bool
     match rule {
         Rule::EndsAndHeight => bad_ends(l, h),
         Rule::RaisedQuarterdeck => bad_quarterdeck(l, h),
-        Rule::NoOverlap => {
+        Rule::Follows => {
             let aft = h.aft;
             units::is_abaft(aft, before)
         }
@@ -71,10 +74,25 @@ pub fn house_breaks(rule: Rule, l: Span, before: Station, h: House) -> bool
 // Whether a house breaks any of the three.
 pub fn breaks_any(l: Span, before: Station, h: House) -> bool
     requires { ⌜ l .0 ≤ 365000 ⌝ }
-    ensures { λ r. ⌜ r ≡ (breaks EndsAndHeight (l .0) (before .0) h || breaks RaisedQuarterdeck (l .0) (before .0) h || breaks NoOverlap (l .0) (before .0) h) ⌝ }
+    ensures { λ r. ⌜ r ≡ (breaks EndsAndHeight (l .0) (before .0) h || breaks RaisedQuarterdeck (l .0) (before .0) h || breaks Follows (l .0) (before .0) h) ⌝ }
 {
     let ends = house_breaks(Rule::EndsAndHeight, l, before, h);
     let deck = house_breaks(Rule::RaisedQuarterdeck, l, before, h);
-    let lap = house_breaks(Rule::NoOverlap, l, before, h);
-    ends | deck | lap
+    let order = house_breaks(Rule::Follows, l, before, h);
+    ends | deck | order
+}
+
+// Why the house at place k is refused if it reaches back over the one before it: by 18 if it begins abaft that one, which sorting mends, else by 11.
+pub fn misplaced(k: usize, before: House, h: House) -> Refusal
+    ensures { λ r. ⌜ refusedAs r ≡ pick (outOfOrder before h) (refused 18 k) (overlapping k (overlapBetween before h)) ⌝ }
+{
+    let aft = h.aft;
+    let begins = before.aft;
+    if units::is_abaft(aft, begins) {
+        return Refusal::OutOfOrder(k);
+    }
+    let fore = h.fore;
+    let ends = before.fore;
+    let end = units::aftermost(ends, fore);
+    Refusal::Overlap(k, units::between(aft, end))
 }

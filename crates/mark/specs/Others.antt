@@ -5,7 +5,7 @@ use lib.Dec.{eqb, leb, ltb}
 use lib.IntN.{pos, _-ℤ_}
 use Rattle.whole.specs.Divide.{ceilDiv}
 use Rattle.whole.specs.Pick.{pick}
-use Rattle.ship.specs.Refusals.{Paper, Line, accepted, refused, numberOf, placeOf, first}
+use Rattle.ship.specs.Refusals.{Paper, Line, accepted, refused, refusedAs, first}
 use Rattle.mark.specs.declared.Marks.{Marks}
 use Rattle.mark.specs.declared.Particulars.{Particulars}
 use Rattle.mark.specs.declared.Answer.{Answer}
@@ -60,7 +60,7 @@ noMarks = record { s = 0; t = 0; w = 0; wna = 0; f = pos 0; tf = pos 0 }
 -- one definition gives 01's numbers for each case
 abbrev pub sheet : Answer → Sheet
 sheet (Given m) = record { verdict = accepted; marks = m }
-sheet (Refused r) = record { verdict = refused (numberOf r) (placeOf r); marks = noMarks }
+sheet (Refused r) = record { verdict = refusedAs r; marks = noMarks }
 
 -- marks beside the verdict that some lines give
 abbrev pub sheetOf : Paper → Marks → Sheet

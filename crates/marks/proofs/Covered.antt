@@ -6,7 +6,8 @@ use Rattle.ship.specs.declared.Ship.{Ship}
 use Rattle.ship.specs.Vessel.{housesOf}
 use Rattle.ship.specs.Refusals.{accepted}
 use Rattle.record.specs.Reading.{readingIn}
-use Rattle.houses.specs.Covered.{coveredAt, count}
+use Rattle.whole.specs.Count.{count}
+use Rattle.houses.specs.Covered.{coveredAt}
 use Rattle.houses.proofs.Counted.{covers}
 use Rattle.steps.specs.Steps.{coveredS}
 use Rattle.marks.proofs.Sheet.{sound-read}

@@ -1,4 +1,5 @@
 pub mod Sheet
 pub mod Covered
 pub mod Demand
+pub mod Split
 pub mod OneToOne

@@ -7,7 +7,7 @@ use borrow.Author.Tests.{ne-eqb}
 use Rattle.whole.proofs.Pick.{pick-false}
 use Rattle.ship.specs.declared.Ship.{Ship}
 use Rattle.ship.specs.declared.refusal.Refusal.{Refusal}
-use Rattle.ship.specs.Refusals.{Paper, Line, accepted, refused, numberOf, placeOf}
+use Rattle.ship.specs.Refusals.{Paper, Line, accepted, refusedAs}
 use Rattle.ship.proofs.Lines.{beside-refusal}
 use Rattle.record.specs.Layout.{shipIn}
 use Rattle.record.specs.Reading.{readingIn}
@@ -33,11 +33,11 @@ sheet-read s x e = call-read answer more s x e
 pub sound-read : (s : List ℕ) (x : Ship) → readingIn s ≡ record { verdict = accepted; ship = x } → Sound x
 sound-read s x e = let g = read-is-good s x e in record { type = g .0; few = g .1; good = g .2 }
 
-pub sheet-refused : (s : List ℕ) (r : Refusal) → readingIn s .verdict ≡ refused (numberOf r) (placeOf r)
-    → sheetIn s ≡ record { verdict = refused (numberOf r) (placeOf r); marks = noMarks }
+pub sheet-refused : (s : List ℕ) (r : Refusal) → readingIn s .verdict ≡ refusedAs r
+    → sheetIn s ≡ record { verdict = refusedAs r; marks = noMarks }
 unfolding sheetIn
 sheet-refused s r e =
-    let v = refused (numberOf r) (placeOf r) in
+    let v = refusedAs r in
     call-refused answer more s r e ∙ ap (λ (m : Marks). record { verdict = v; marks = m }) (beside-refusal r (sixMarks (particularsOf (shipIn s)) (summerOf (shipIn s))) noMarks)
 
 -- beside a refusal, whichever it is, all six marks are zero

@@ -6,7 +6,7 @@ use native.Mathlib.Omega.{arith}
 use Rattle.ship.specs.declared.Ship.{Ship}
 use Rattle.ship.specs.declared.refusal.Refusal.{Refusal}
 use Rattle.ship.specs.declared.refusal.Verdict.the-variants as Verdicts
-use Rattle.ship.specs.Refusals.{Paper, Line, accepted, refused, numberOf, placeOf}
+use Rattle.ship.specs.Refusals.{Paper, Line, accepted, refusedAs}
 use Rattle.ship.proofs.OneToOne.{one-verdict, number-above-0}
 use Rattle.ship.proofs.Lines.{beside-refusal}
 use Rattle.record.specs.Layout.{shipIn}
@@ -28,9 +28,9 @@ module _ (height wish : ℕ) where
   unfolding replyIn replyFor
   reply-read s x e = call-read answer more s x e
 
-  pub reply-refused : (s : List ℕ) (r : Refusal) → readingIn s .verdict ≡ refused (numberOf r) (placeOf r) → replyIn s height wish ≡ refusing (refused (numberOf r) (placeOf r))
+  pub reply-refused : (s : List ℕ) (r : Refusal) → readingIn s .verdict ≡ refusedAs r → replyIn s height wish ≡ refusing (refusedAs r)
   unfolding replyIn
-  reply-refused s r e = call-refused answer more s r e ∙ beside-refusal r (shortestFor (shipIn s) height wish) (refusing (refused (numberOf r) (placeOf r)))
+  reply-refused s r e = call-refused answer more s r e ∙ beside-refusal r (shortestFor (shipIn s) height wish) (refusing (refusedAs r))
 
 -- ---- 01's number, place and length name one answer
 pub one-reply : (a b : Answer) → reply a ≡ reply b → a ≡ b

@@ -22,30 +22,28 @@ use Rattle.trial.specs.Poop.{poopHouse, withFirst, withPoop, within, marksWithi
 use Rattle.question.specs.Question.{Reply, refusing, noLength, Shortest, fitting, none, askLines, replyOf, shortestFor, replyIn}
 use Rattle.question.proofs.Search.{is-shortest, one-shortest}
 
--- no line refuses by a number of 16 or more
-abbrev Early : List Line → Type 0
-Early [] = Unit {0}
-Early (t ∷ ts) = (t .1 .number < 16) × Early ts
+-- no line refuses by 16, which is the search's own
+abbrev Not16 : List Line → Type 0
+Not16 [] = Unit {0}
+Not16 (t ∷ ts) = (¬ (t .1 .number ≡ 16)) × Not16 ts
 
-first-early : (ts : List Line) → Early ts → first ts .number < 16
+first-not-16 : (ts : List Line) → Not16 ts → ¬ (first ts .number ≡ 16)
 unfolding first pick
-first-early [] m = omega arith
-first-early (t ∷ ts) m = go (t .0) (first-early ts (m .1))
+first-not-16 [] m = λ e. omega arith
+first-not-16 (t ∷ ts) m = go (t .0) (first-not-16 ts (m .1))
   where
-    go : (b : Bool) → first ts .number < 16 → pick b (t .1) (first ts) .number < 16
+    go : (b : Bool) → ¬ (first ts .number ≡ 16) → ¬ (pick b (t .1) (first ts) .number ≡ 16)
     go true h = m .0
     go false h = h
 
 -- a reply of number 0 or 16 is the search's
-from-search : (p : Paper) (r : Reply) → p .number < 16 → (0 < replyOf p r .verdict .number → 16 ≤ replyOf p r .verdict .number) → replyOf p r ≡ r
+from-search : (p : Paper) (r : Reply) → ¬ (p .number ≡ 16) → (¬ (replyOf p r .verdict .number ≡ 0) → replyOf p r .verdict .number ≡ 16) → replyOf p r ≡ r
 unfolding pick
-from-search p r early h = go (eqb (p .number) 0) refl h
+from-search p r other h = go (eqb (p .number) 0) refl h
   where
-    go : (b : Bool) → eqb (p .number) 0 ≡ b → (0 < pick b r (refusing p) .verdict .number → 16 ≤ pick b r (refusing p) .verdict .number) → pick b r (refusing p) ≡ r
+    go : (b : Bool) → eqb (p .number) 0 ≡ b → (¬ (pick b r (refusing p) .verdict .number ≡ 0) → pick b r (refusing p) .verdict .number ≡ 16) → pick b r (refusing p) ≡ r
     go true e h = refl
-    go false e h =
-        let n : ¬ (p .number ≡ 0) = eqb-false (p .number) 0 e in
-        absurd (omega (arith, h (omega arith)))
+    go false e h = absurd (other (h (eqb-false (p .number) 0 e)))
 
 -- the facts, taken out again
 module _ (fits : ℕ → Bool) (L : ℕ) where
@@ -69,22 +67,22 @@ module _ (s : List ℕ) (height wish : ℕ) where
   abbrev lines : List Line
   lines = frameLines s ++ shipLines x ++ askLines x height wish
 
-  same : (0 < replyIn s height wish .verdict .number → 16 ≤ replyIn s height wish .verdict .number) → replyIn s height wish ≡ shortestFor x height wish
+  same : (¬ (replyIn s height wish .verdict .number ≡ 0) → replyIn s height wish .verdict .number ≡ 16) → replyIn s height wish ≡ shortestFor x height wish
   unfolding replyIn
-  same h = from-search (first lines) (shortestFor x height wish) (first-early lines (omega arith)) h
+  same h = from-search (first lines) (shortestFor x height wish) (first-not-16 lines (omega arith)) h
 
-  found : (0 < replyIn s height wish .verdict .number → 16 ≤ replyIn s height wish .verdict .number) → Shortest (fitsAt x height wish) (x .length .0) (replyIn s height wish)
+  found : (¬ (replyIn s height wish .verdict .number ≡ 0) → replyIn s height wish .verdict .number ≡ 16) → Shortest (fitsAt x height wish) (x .length .0) (replyIn s height wish)
   found h = subst (λ (r : Reply). Shortest (fitsAt x height wish) (x .length .0) r) (sym (same h)) (is-shortest x height wish)
 
   -- the answer fits, and nothing shorter does
   pub answer-fits : replyIn s height wish .verdict .number ≡ 0
       → let k = replyIn s height wish .decimetres in
       (100 * k ≤ x .length .0) × (fitsAt x height wish k ≡ true) × ((j : ℕ) → j < k → fitsAt x height wish j ≡ false)
-  answer-fits e = of-given (fitsAt x height wish) (x .length .0) (replyIn s height wish) (found (λ h. omega arith)) e
+  answer-fits e = of-given (fitsAt x height wish) (x .length .0) (replyIn s height wish) (found (λ n. absurd (n e))) e
 
   -- 16 says that nothing fits, and where nothing fits and no line before it refuses, it is given
   pub sixteen : replyIn s height wish .verdict .number ≡ 16 → (j : ℕ) → 100 * j ≤ x .length .0 → fitsAt x height wish j ≡ false
-  sixteen e = of-none (fitsAt x height wish) (x .length .0) (replyIn s height wish) (found (λ h. omega arith)) e
+  sixteen e = of-none (fitsAt x height wish) (x .length .0) (replyIn s height wish) (found (λ n. e)) e
 
   pub sixteen-given : first lines ≡ accepted → ((j : ℕ) → 100 * j ≤ x .length .0 → fitsAt x height wish j ≡ false) → replyIn s height wish ≡ noLength
   unfolding replyIn pick
@@ -106,7 +104,7 @@ module _ (s : List ℕ) (height wish : ℕ) where
       go true n = beside (fitsAt x height wish) (x .length .0) (shortestFor x height wish) (is-shortest x height wish) n
       go false n = refl
 
--- ---- a k fits by 9 to 13: 7 and 8 pass on the ship with the poop as on the ship without
+-- ---- a k fits by 9 to 13 and 18: 7 and 8 pass on the ship with the poop as on the ship without
 fields-either : (x : Ship) (h : House) (b : Bool) → AllPass (fieldLines x) → AllPass (fieldLines (pick b x (withFirst h x)))
 unfolding withFirst pick
 fields-either x h true p = p

@@ -1,4 +1,4 @@
--- 01, the shortest-poop question: refusals 1 to 11, then 14, 15 and 16, in 01's order, and the shortest length that fits.
+-- 01, the shortest-poop question: refusals 1 to 11, and 18 with 11, then 14, 15 and 16, in the papers' order, and the shortest length that fits.
 use Prim.Native.Nat.{ℕ, zero, suc, _+_, _*_, _/_, _≤_, _<_}
 use mathlib.Core.Bool.{Bool, true, false, _&&_, _||_}
 use mathlib.Core.List.{List, [], _∷_, _++_}
@@ -8,7 +8,7 @@ use Rattle.whole.specs.Pick.{pick}
 use Rattle.units.specs.Datum.{stationOf}
 use Rattle.ship.specs.declared.Ship.{Ship}
 use Rattle.ship.specs.Vessel.{houseAt}
-use Rattle.ship.specs.Refusals.{Paper, Line, accepted, refused, numberOf, placeOf, first}
+use Rattle.ship.specs.Refusals.{Paper, Line, accepted, refused, refusedAs, first}
 use Rattle.ship.specs.Checks.{shipLines}
 use Rattle.record.specs.Layout.{shipIn}
 use Rattle.record.specs.Reading.{frameLines}
@@ -30,7 +30,7 @@ refusing p = record { verdict = p; decimetres = 0 }
 -- one definition gives 01's numbers for each case
 abbrev pub reply : Answer → Reply
 reply (Poop k) = given k
-reply (Refused r) = refusing (refused (numberOf r) (placeOf r))
+reply (Refused r) = refusing (refusedAs r)
 
 -- 14: poop height outside 1..8191, or wish outside 50..60000
 abbrev pub badAsked : ℕ → ℕ → Bool

@@ -9,7 +9,7 @@ use borrow.Author.Tests.{lt-ltb, le-ltb, eq-eqb, ne-eqb, ltb-false, eqb-true, no
 use native.Mathlib.Omega.{arith}
 use Rattle.whole.specs.Pick.{pick}
 use Rattle.ship.specs.declared.refusal.Refusal.{Refusal}
-use Rattle.ship.specs.Refusals.{Paper, accepted, refused, numberOf, placeOf, first}
+use Rattle.ship.specs.Refusals.{Paper, accepted, refused, refusedAs, first}
 use Rattle.ship.proofs.Lines.{all-pass, first-skip, first-accepted, first-refused}
 use Rattle.record.specs.declared.Head.{Head}
 use Rattle.record.specs.Layout.{recordLength, headIn, placesIn, shipOf, shipIn}
@@ -32,7 +32,7 @@ module _ (s : List ℕ) (h : Head) (is : h ≡ headIn s) (long : 27 ≤ length s
       first-skip ((ltb (length s) 27, refused 1 0) ∷ []) (headLines (headIn s) (length s) ++ (spareLine (headIn s) s ∷ [])) (le-ltb (length s) 27 long, tt)
       ∙ ap (λ (g : Head). first (headLines g (length s) ++ (spareLine g s ∷ []))) (sym is)
 
-  pub frame-head : (r : Refusal) → first (headLines h (length s)) ≡ refused (numberOf r) (placeOf r) → first (frameLines s) ≡ refused (numberOf r) (placeOf r)
+  pub frame-head : (r : Refusal) → first (headLines h (length s)) ≡ refusedAs r → first (frameLines s) ≡ refusedAs r
   frame-head r e = frame-long ∙ first-refused (headLines h (length s)) (spareLine h s ∷ []) r (omega arith) e
 
   module _ (right : first (headLines h (length s)) ≡ accepted) where

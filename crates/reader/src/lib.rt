@@ -2,7 +2,7 @@
 ghost use mathlib.Core.Path.{_≡_};
 ghost use Prim.Native.Nat.{_≤_};
 ghost use lib.ListN.{length};
-ghost use Rattle.ship.specs.Refusals.{first, accepted, refused, numberOf, placeOf};
+ghost use Rattle.ship.specs.Refusals.{first, accepted, refusedAs};
 ghost use Rattle.ship.specs.Vessel.{noShip};
 ghost use Rattle.ship.specs.Checks.{shipLines};
 ghost use Rattle.record.specs.Layout.{headIn, shipOf};
@@ -47,7 +47,7 @@ fn ship_of(h: Head, houses: [House; 8]) -> Ship
 
 // A refusal, with the ship of zeros beside it.
 fn refuse(r: Refusal) -> Answer
-    ensures { λ a. ⌜ shown a ≡ record { verdict = refused (numberOf r) (placeOf r); ship = noShip } ⌝ }
+    ensures { λ a. ⌜ shown a ≡ record { verdict = refusedAs r; ship = noShip } ⌝ }
 {
     let none = ship::no_ship();
     Answer {
@@ -56,7 +56,7 @@ fn refuse(r: Refusal) -> Answer
     }
 }
 
-// Checks 7 to 11.
+// Checks 7 to 11 and 18.
 fn judge(x: Ship) -> Answer
     requires { ⌜ x .n ≤ 8 ⌝ }
     ensures { λ r. ⌜ shown r ≡ readingOf (first (shipLines x)) x ⌝ }
@@ -78,7 +78,7 @@ fn judge(x: Ship) -> Answer
     }
 }
 
-// Checks 6 to 11 on bytes whose head is right.
+// Checks 6 to 11 and 18 on bytes whose head is right.
 fn read_ship(s: &[u8], h: Head) -> Answer
     requires { ⌜ (h ≡ headIn (now s)) × (27 ≤ length (now s)) × (first (headLines h (length (now s))) ≡ accepted) ⌝ }
     ensures { λ r. ⌜ shown r ≡ readingIn (now (s .entry)) ⌝ }
@@ -91,7 +91,7 @@ fn read_ship(s: &[u8], h: Head) -> Answer
     judge(ship_of(h, places))
 }
 
-// Reads a record: refusals 1 to 11, in the table's order.
+// Reads a record: refusals 1 to 11 and 18, in the table's order.
 pub fn read(s: &[u8]) -> Answer
     ensures { λ r. ⌜ shown r ≡ readingIn (now (s .entry)) ⌝ }
 {

@@ -5,7 +5,7 @@ use mathlib.Core.Path.{_≡_, ap, _∙_}
 use native.Mathlib.Omega.{arith}
 use Rattle.ship.specs.declared.Ship.{Ship}
 use Rattle.ship.specs.declared.refusal.Refusal.{Refusal}
-use Rattle.ship.specs.Refusals.{Paper, Line, accepted, refused, numberOf, placeOf, first}
+use Rattle.ship.specs.Refusals.{Paper, Line, accepted, refusedAs, first}
 use Rattle.ship.specs.Checks.{shipLines}
 use Rattle.ship.proofs.Lines.{first-skip, first-refused}
 use Rattle.record.specs.Layout.{shipIn}
@@ -28,7 +28,7 @@ module _ {A : Type 0} (answer : Paper → Ship → A) (more : Ship → List Line
       ap (λ (v : Paper). answer v y) t ∙ ap (λ (z : Ship). answer (first (more z)) z) (ship-is s x e)
 
   -- bytes that are refused have that refusal
-  pub call-refused : (r : Refusal) → readingIn s .verdict ≡ refused (numberOf r) (placeOf r) → callOn ≡ answer (refused (numberOf r) (placeOf r)) (shipIn s)
+  pub call-refused : (r : Refusal) → readingIn s .verdict ≡ refusedAs r → callOn ≡ answer (refusedAs r) (shipIn s)
   unfolding readingIn
   call-refused r e =
       let y = shipIn s in

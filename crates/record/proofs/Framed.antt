@@ -11,7 +11,7 @@ use Rattle.whole.specs.Pick.{pick}
 use Rattle.ship.specs.declared.Ship.{Ship}
 use Rattle.ship.specs.declared.refusal.Refusal.{Refusal}
 use Rattle.ship.specs.Vessel.{noShip}
-use Rattle.ship.specs.Refusals.{Paper, accepted, refused, numberOf, placeOf, first}
+use Rattle.ship.specs.Refusals.{Paper, accepted, refusedAs, first}
 use Rattle.ship.specs.Checks.{shipLines}
 use Rattle.ship.proofs.Lines.{AllPass, all-pass, all-pass-split, first-accepted, first-refused, first-passed, beside-refusal}
 use Rattle.ship.specs.Good.{Good}
@@ -61,12 +61,12 @@ unfolding readingIn
 reading-framed s e = ap (λ (p : Paper). readingOf p (shipIn s)) (first-accepted (frameLines s) (shipLines (shipIn s)) (omega arith) e)
 
 -- beside a refusal stands no ship
-pub reading-refused : (r : Refusal) (x : Ship) → readingOf (refused (numberOf r) (placeOf r)) x ≡ record { verdict = refused (numberOf r) (placeOf r); ship = noShip }
-reading-refused r x = λ i. record { verdict = refused (numberOf r) (placeOf r); ship = beside-refusal r x noShip i }
+pub reading-refused : (r : Refusal) (x : Ship) → readingOf (refusedAs r) x ≡ record { verdict = refusedAs r; ship = noShip }
+reading-refused r x = λ i. record { verdict = refusedAs r; ship = beside-refusal r x noShip i }
 
 -- bytes whose frame is refused have its refusal
-pub reading-unframed : (s : List ℕ) (r : Refusal) → first (frameLines s) ≡ refused (numberOf r) (placeOf r)
-    → readingIn s ≡ record { verdict = refused (numberOf r) (placeOf r); ship = noShip }
+pub reading-unframed : (s : List ℕ) (r : Refusal) → first (frameLines s) ≡ refusedAs r
+    → readingIn s ≡ record { verdict = refusedAs r; ship = noShip }
 unfolding readingIn
 reading-unframed s r e =
     ap (λ (p : Paper). readingOf p (shipIn s)) (first-refused (frameLines s) (shipLines (shipIn s)) r (omega arith) e) ∙ reading-refused r (shipIn s)

@@ -3,6 +3,7 @@ pub mod Parts
 pub mod Signed
 pub mod Framed
 pub mod Calls
+pub mod Split
 pub mod Written
 pub mod House
 pub mod RoundTrip

@@ -1,4 +1,4 @@
--- 01, "Refusals and their order": reading uses 1 to 11.
+-- 01, "Refusals and their order": reading uses 1 to 11, and 18 with 11.
 use Prim.Native.Nat.{ℕ, zero, suc, _+_}
 use mathlib.Core.Bool.{not}
 use mathlib.Core.List.{List, [], _∷_, _++_}

@@ -1,19 +1,35 @@
 -- 02: the figures that its requests and their readings state, in the same form; for §8, which states none, figures worked by hand. A row has the request's number.
 use Prim.Native.Nat.{ℕ, _+_, _*_}
-use mathlib.Core.List.{List, [], _∷_}
+use mathlib.Core.List.{List, [], _∷_, _++_}
 use Rattle.whole.specs.Frac.{ceil}
 use Rattle.units.specs.Datum.{lift}
 use Rattle.ship.specs.declared.House.{House}
+use Rattle.ship.specs.Refusals.{Paper, first}
+use Rattle.ship.specs.Checks.{houseLines}
 use Rattle.record.specs.Layout.{shipIn}
+use Rattle.record.specs.Reading.{readingIn}
+use Rattle.record.specs.Writing.{writingOf}
 use Rattle.houses.specs.Height.{heightRatio}
 use Rattle.houses.specs.Effective.{effectiveLength}
 use Rattle.houses.specs.Amidships.{amidshipsOf}
 use Rattle.corrections.specs.Depth31.{depthReduction}
 use Rattle.sheer.specs.Sheer.{exactDeficiency, exactAddition, excess, deficiency, addition}
 use Rattle.steps.specs.Steps.{summerOf}
+use Rattle.marks.specs.Marks.{sheetIn}
 use Rattle.trial.specs.Poop.{withPoop}
 use Rattle.question.specs.Question.{Reply, replyIn}
-use Rattle.figures.specs.Figures.{Row, one, askedRow, house}
+use Rattle.figures.specs.Figures.{Row, row, one, particulars, forecastle, refusalOf, marksRow, askedRow, house}
+
+-- ---- §1: number, place and overlap, of two houses on a ship of 90 m, from aft to fore each
+abbrev pub refusalRow : Paper → List ℕ → Row
+refusalRow p stated = row 1 (refusalOf p) stated
+
+abbrev pub two : ℕ → ℕ → ℕ → ℕ → Paper
+two aft fore later end = first (houseLines 90000 (house aft fore 2000 ∷ house later end 2000 ∷ []))
+
+-- sample/twice.record: k2 with its house reported twice
+unfoldable pub r1 : List ℕ
+r1 = 0x14 ∷ 0x80 ∷ particulars ++ forecastle ++ forecastle
 
 -- ---- §4: what depth takes, of a list of houses
 abbrev pub depthTakes : ℕ → ℕ → List House → ℕ
@@ -46,7 +62,18 @@ unrounded8 = ceil (exactAddition (exactDeficiency (7 * lift) (7 * lift) 90001) 9
 -- ---- the table. The questions stand last: each search goes over more than 900 lengths
 unfoldable pub requests : List Row
 requests =
-    one 2 (effectiveLength 100000 (house 0 10001 1000 ∷ house 20000 30002 1000 ∷ house 95000 100000 1000 ∷ [])) 12196585
+    refusalRow (two 0 20000 0 5000) (11 ∷ 1 ∷ 5000 ∷ [])
+    ∷ refusalRow (two 0 20001 20000 30000) (11 ∷ 1 ∷ 1 ∷ [])
+    ∷ refusalRow (two 0 20000 6000 8000) (11 ∷ 1 ∷ 2000 ∷ [])
+    ∷ refusalRow (two 20000 25000 19999 30000) (18 ∷ 1 ∷ 0 ∷ [])
+    ∷ refusalRow (two 20000 25000 0 10000) (18 ∷ 1 ∷ 0 ∷ [])
+    ∷ refusalRow (two 10000 20000 9999 15000) (18 ∷ 1 ∷ 0 ∷ [])
+    ∷ refusalRow (two 0 20000 20000 30000) (0 ∷ 0 ∷ 0 ∷ [])
+    ∷ refusalRow (readingIn r1 .verdict) (11 ∷ 1 ∷ 10000 ∷ [])
+    ∷ refusalRow (writingOf 91 (shipIn r1)) (11 ∷ 1 ∷ 10000 ∷ [])
+    ∷ marksRow 1 (sheetIn r1) (11 ∷ 1 ∷ 10000 ∷ 0 ∷ 0 ∷ 0 ∷ 0 ∷ 0 ∷ 0 ∷ [])
+    ∷ askedRow 1 (replyIn r1 1950 1000) (11 ∷ 1 ∷ 10000 ∷ 0 ∷ [])
+    ∷ one 2 (effectiveLength 100000 (house 0 10001 1000 ∷ house 20000 30002 1000 ∷ house 95000 100000 1000 ∷ [])) 12196585
     ∷ one 4 (depthTakes 90212 5000 (house 18000 90112 1001 ∷ [])) 97734
     ∷ one 4 (depthTakes 120000 7000 (house 24000 96000 2250 ∷ [])) 250000
     ∷ one 4 (depthTakes 120000 7000 (house 24000 96000 1125 ∷ [])) 125000
@@ -63,8 +90,8 @@ requests =
     ∷ one 8 (over8 2002) 8375
     ∷ one 8 flat8 375192
     ∷ one 8 unrounded8 375191
-    ∷ askedRow 4 (asked4 785) (0 ∷ 0 ∷ 959 ∷ [])
-    ∷ askedRow 4 (asked4 784) (0 ∷ 0 ∷ 960 ∷ [])
-    ∷ askedRow 4 (asked4 534) (0 ∷ 0 ∷ 960 ∷ [])
-    ∷ askedRow 4 (asked4 533) (0 ∷ 0 ∷ 961 ∷ [])
+    ∷ askedRow 4 (asked4 785) (0 ∷ 0 ∷ 0 ∷ 959 ∷ [])
+    ∷ askedRow 4 (asked4 784) (0 ∷ 0 ∷ 0 ∷ 960 ∷ [])
+    ∷ askedRow 4 (asked4 534) (0 ∷ 0 ∷ 0 ∷ 960 ∷ [])
+    ∷ askedRow 4 (asked4 533) (0 ∷ 0 ∷ 0 ∷ 961 ∷ [])
     ∷ []

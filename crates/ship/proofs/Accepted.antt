@@ -12,7 +12,7 @@ use Rattle.units.specs.Datum.{stationOf}
 use Rattle.ship.specs.declared.House.{House}
 use Rattle.ship.specs.declared.Ship.{Ship}
 use Rattle.ship.specs.declared.rule.Rule.{Rule}
-use Rattle.ship.specs.declared.rule.Rule.the-variants.{EndsAndHeight, RaisedQuarterdeck, NoOverlap}
+use Rattle.ship.specs.declared.rule.Rule.the-variants.{EndsAndHeight, RaisedQuarterdeck, Follows}
 use Rattle.ship.specs.Vessel.{housesOf, houseAt}
 use Rattle.ship.specs.Refusals.{Paper, first}
 use Rattle.ship.specs.Checks.{least, most, outside, fieldsOf, fieldOut, badEnds, badQuarterdeck, foreBefore, breaks, breachAt, firstBreach, houseLines, shipLines}
@@ -27,13 +27,13 @@ in-range fields k h =
     let e = or-false (ltb (getD fields k 0) (getD least k 0)) (ltb (getD most k 0) (getD fields k 0)) (none-before (outside fields) 0 13 k (omega arith) h) in
     (ltb-false (getD fields k 0) (getD least k 0) (e .0), ltb-false (getD most k 0) (getD fields k 0) (e .1))
 
--- 9 to 11: a house before the first breach breaks no rule
-obeys : (r : Rule) (l : ℕ) (hs : List House) → length hs ≤ firstBreach r l hs → (k : ℕ) → k < length hs → breaks r l (foreBefore hs k) (houseAt hs k) ≡ false
+-- 9 to 11 and 18: a house before the first breach breaks no rule
+pub obeys : (r : Rule) (l : ℕ) (hs : List House) → length hs ≤ firstBreach r l hs → (k : ℕ) → k < length hs → breaks r l (foreBefore hs k) (houseAt hs k) ≡ false
 unfolding firstBreach breachAt
 obeys r l hs h k g = none-before (breachAt r l hs) 0 (length hs) k (omega arith) (omega arith)
 
 module _ (l : ℕ) (h : House) where
-  ends-of : badEnds l h ≡ false → (h .aft .0 < h .fore .0) × (stationOf 0 < h .fore .0) × (h .aft .0 < stationOf l) × (stationOf 0 - 20000 ≤ h .aft .0)
+  pub ends-of : badEnds l h ≡ false → (h .aft .0 < h .fore .0) × (stationOf 0 < h .fore .0) × (h .aft .0 < stationOf l) × (stationOf 0 - 20000 ≤ h .aft .0)
       × (h .fore .0 ≤ stationOf (l + 20000)) × (1 ≤ h .height .0) × (h .height .0 ≤ 8191)
   ends-of e =
       let a = h .aft .0 in
@@ -68,7 +68,7 @@ good-houses l hs e =
     let p = all-pass (houseLines l hs) (omega arith) e in
     let ends = obeys EndsAndHeight l hs (ltb-false (firstBreach EndsAndHeight l hs) (length hs) (p .0)) in
     let deck = obeys RaisedQuarterdeck l hs (ltb-false (firstBreach RaisedQuarterdeck l hs) (length hs) (p .1 .0)) in
-    let lap = obeys NoOverlap l hs (ltb-false (firstBreach NoOverlap l hs) (length hs) (p .1 .1 .0)) in
+    let follows = obeys Follows l hs (ltb-false (firstBreach Follows l hs) (length hs) (p .1 .1 .1 .0)) in
     record {
       each = λ k h.
           let f = ends-of l (houseAt hs k) (ends k h) in
@@ -83,7 +83,7 @@ good-houses l hs e =
             quarterdeck = deck-of l (houseAt hs k) (deck k h);
           };
       order = λ k h.
-          rw (add-one k) (ltb-false (houseAt hs (suc k) .aft .0) (houseAt hs k .fore .0) (lap (suc k) (omega arith)));
+          rw (add-one k) (ltb-false (houseAt hs (suc k) .aft .0) (houseAt hs k .fore .0) (follows (suc k) (omega arith)));
     }
 
 certified-of : (a b : ℕ) → not (Bool·beq (eqb a 0) (eqb b 0)) ≡ false → (0 < a → 0 < b) × (0 < b → 0 < a)

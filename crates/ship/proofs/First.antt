@@ -46,6 +46,17 @@ none-before fails k (suc m) j h g = go (fails k) refl (none-before fails (k + 1)
     go true e r g = absurd (omega arith)
     go false e r g = elim (decLt k j) [ yes q ↦ r (omega arith) g | no q ↦ (let s : j ≡ k = omega arith in rw s e) ]
 
+-- what is found fails
+pub found-fails : (fails : ℕ → Bool) (k m : ℕ) → firstFrom fails k m < k + m → fails (firstFrom fails k m) ≡ true
+unfolding firstFrom pick
+found-fails fails k zero h = absurd (omega arith)
+found-fails fails k (suc m) h = go (fails k) refl (found-fails fails (k + 1) m) h
+  where
+    go : (b : Bool) → fails k ≡ b → (firstFrom fails (k + 1) m < k + 1 + m → fails (firstFrom fails (k + 1) m) ≡ true)
+        → pick b k (firstFrom fails (k + 1) m) < k + suc m → fails (pick b k (firstFrom fails (k + 1) m)) ≡ true
+    go true e r g = e
+    go false e r g = r (omega arith)
+
 -- where nothing fails, nothing is found
 pub first-none : (fails : ℕ → Bool) (k m : ℕ) → ((j : ℕ) → k ≤ j → j < k + m → fails j ≡ false) → firstFrom fails k m ≡ k + m
 unfolding firstFrom pick

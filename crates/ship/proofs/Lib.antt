@@ -4,3 +4,4 @@ pub mod Accepted
 pub mod OneToOne
 pub mod Passing
 pub mod Zero
+pub mod Split

@@ -8,7 +8,7 @@ use lib.Dec.{eqb}
 use borrow.Author.Tests.{ne-eqb}
 use Rattle.whole.specs.Pick.{pick}
 use Rattle.ship.specs.declared.refusal.Refusal.{Refusal}
-use Rattle.ship.specs.Refusals.{Line, accepted, refused, numberOf, placeOf, first}
+use Rattle.ship.specs.Refusals.{Line, accepted, numberOf, refusedAs, first}
 use Rattle.ship.proofs.OneToOne.{number-above-0}
 
 -- no line refuses by the number 0, which means acceptance
@@ -62,8 +62,8 @@ unfolding pick
 beside-refusal r a b = rw (ne-eqb (numberOf r) 0 (λ z. omega (arith, number-above-0 r))) refl
 
 -- so lines that refuse hide those below them
-pub first-refused : (ts us : List Line) (r : Refusal) → Numbered ts → first ts ≡ refused (numberOf r) (placeOf r) → first (ts ++ us) ≡ refused (numberOf r) (placeOf r)
-first-refused ts us r m e = first-append ts us m ∙ rw e (beside-refusal r (first us) (refused (numberOf r) (placeOf r)))
+pub first-refused : (ts us : List Line) (r : Refusal) → Numbered ts → first ts ≡ refusedAs r → first (ts ++ us) ≡ refusedAs r
+first-refused ts us r m e = first-append ts us m ∙ rw e (beside-refusal r (first us) (refusedAs r))
 
 -- and lines that accept leave the verdict to them
 pub first-accepted : (ts us : List Line) → Numbered ts → first ts ≡ accepted → first (ts ++ us) ≡ first us

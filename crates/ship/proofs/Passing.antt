@@ -1,4 +1,4 @@
--- Houses that are good pass checks 9 to 11; and a good house before good houses, which it does not reach, makes a good list.
+-- Houses that are good pass checks 9 to 11 and 18; and a good house before good houses, which it does not reach, makes a good list.
 use Prim.Native.Nat.{ℕ, zero, suc, _+_, _-_, _≤_, _<_}
 use mathlib.Core.Bool.{Bool, true, false, not, _&&_, _||_}
 use mathlib.Core.List.{List, _∷_}
@@ -11,7 +11,7 @@ use lib.ListN.{length}
 use Rattle.units.specs.Datum.{stationOf}
 use Rattle.ship.specs.declared.House.{House}
 use Rattle.ship.specs.declared.rule.Rule.{Rule}
-use Rattle.ship.specs.declared.rule.Rule.the-variants.{EndsAndHeight, RaisedQuarterdeck, NoOverlap}
+use Rattle.ship.specs.declared.rule.Rule.the-variants.{EndsAndHeight, RaisedQuarterdeck, Follows}
 use Rattle.ship.specs.Vessel.{houseAt}
 use Rattle.ship.specs.Refusals.{accepted, first}
 use Rattle.ship.specs.Checks.{badQuarterdeck, breaks, breachAt, firstBreach, houseLines}
@@ -45,8 +45,8 @@ module _ (l : ℕ) (hs : List House) (g : GoodHouses l hs) where
         le-ltb 8191 (h .height .0) (k .height-most),
       ) refl
   keeps RaisedQuarterdeck j m = quarterdeck-passes l (houseAt hs j) (g .each j m)
-  keeps NoOverlap zero m = le-ltb (houseAt hs 0 .aft .0) 0 (omega arith)
-  keeps NoOverlap (suc j) m = le-ltb (houseAt hs (suc j) .aft .0) (houseAt hs j .fore .0) (rw (add-one j) at (g .order j (omega arith)))
+  keeps Follows zero m = le-ltb (houseAt hs 0 .aft .0) 0 (omega arith)
+  keeps Follows (suc j) m = le-ltb (houseAt hs (suc j) .aft .0) (houseAt hs j .fore .0) (rw (add-one j) at (g .order j (omega arith)))
 
   passes : (r : Rule) → ltb (firstBreach r l hs) (length hs) ≡ false
   unfolding firstBreach
@@ -55,7 +55,9 @@ module _ (l : ℕ) (hs : List House) (g : GoodHouses l hs) where
       le-ltb (firstBreach r l hs) (length hs) (omega (arith, e))
 
   pub lines-pass : first (houseLines l hs) ≡ accepted
-  lines-pass = first-passed (houseLines l hs) (passes EndsAndHeight, (passes RaisedQuarterdeck, (passes NoOverlap, tt)))
+  lines-pass =
+      let follows = passes Follows in
+      first-passed (houseLines l hs) (passes EndsAndHeight, (passes RaisedQuarterdeck, (rw follows refl, (follows, tt))))
 
 -- a good house before good houses
 pub good-with : (l : ℕ) (h : House) (hs : List House) → GoodHouse l h → GoodHouses l hs → (0 < length hs → h .fore .0 ≤ houseAt hs 0 .aft .0) → GoodHouses l (h ∷ hs)

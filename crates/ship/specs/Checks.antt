@@ -1,5 +1,5 @@
--- 01, "Refusals and their order", checks 7 to 11, each over all houses before the next begins.
-use Prim.Native.Nat.{ℕ, zero, suc, _+_, _-_}
+-- 01, "Refusals and their order", checks 7 to 11, with 02 §1's 18 beside 11; each over all houses before the next begins.
+use Prim.Native.Nat.{ℕ, zero, suc, _+_, _-_, min}
 use mathlib.Core.Bool.{Bool, not, _&&_, _||_, Bool·beq}
 use mathlib.Core.List.{List, [], _∷_, _++_}
 use lib.Dec.{eqb, ltb, leb}
@@ -9,9 +9,9 @@ use Rattle.units.specs.Datum.{stationOf, lift, sheerAt}
 use Rattle.ship.specs.declared.House.{House}
 use Rattle.ship.specs.declared.Ship.{Ship}
 use Rattle.ship.specs.declared.rule.Rule.{Rule}
-use Rattle.ship.specs.declared.rule.Rule.the-variants.{EndsAndHeight, RaisedQuarterdeck, NoOverlap}
+use Rattle.ship.specs.declared.rule.Rule.the-variants.{EndsAndHeight, RaisedQuarterdeck, Follows}
 use Rattle.ship.specs.Vessel.{housesOf, houseAt}
-use Rattle.ship.specs.Refusals.{Line, refused}
+use Rattle.ship.specs.Refusals.{Line, refused, overlapping}
 
 -- the first number from k on, below k + m, that fails a test; k + m where none does
 unfoldable pub firstFrom : (ℕ → Bool) → ℕ → ℕ → ℕ
@@ -64,15 +64,15 @@ abbrev pub foreBefore : List House → ℕ → ℕ
 foreBefore hs zero = 0
 foreBefore hs (suc k) = houseAt hs k .fore .0
 
--- 11: aft end below the previous house's fore end
-abbrev pub laps : ℕ → House → Bool
-laps before h = ltb (h .aft .0) before
+-- 11 and 18: aft end below the previous house's fore end
+abbrev pub reachesBack : ℕ → House → Bool
+reachesBack before h = ltb (h .aft .0) before
 
 -- whether a house breaks a rule; before is the fore end of the house before it
 unfoldable pub breaks : Rule → ℕ → ℕ → House → Bool
 breaks EndsAndHeight l before h = badEnds l h
 breaks RaisedQuarterdeck l before h = badQuarterdeck l h
-breaks NoOverlap l before h = laps before h
+breaks Follows l before h = reachesBack before h
 
 -- and the house at place k of a list
 unfoldable pub breachAt : Rule → ℕ → List House → ℕ → Bool
@@ -85,14 +85,32 @@ firstBreach r l hs = firstFrom (breachAt r l hs) 0 (length hs)
 abbrev pub houseLine : ℕ → Rule → ℕ → List House → Line
 houseLine number r l hs = (ltb (firstBreach r l hs) (length hs), refused number (firstBreach r l hs))
 
--- 9 to 11, on a list of houses and L alone
+-- 18: out of order is when the house's aft end is below the previous house's aft end; otherwise it is overlap
+abbrev pub outOfOrder : House → House → Bool
+outOfOrder before h = ltb (h .aft .0) (before .aft .0)
+
+-- 11: the overlap in mm, the smaller of the two fore ends minus the later aft end
+abbrev pub overlapBetween : House → House → ℕ
+overlapBetween before h = min (before .fore .0) (h .fore .0) - h .aft .0
+
+-- 11 or 18: the first house that reaches back over the one before it decides which is given, and is the place of either
+abbrev pub orderLinesAt : ℕ → List House → List Line
+orderLinesAt k hs =
+    (ltb k (length hs) && outOfOrder (houseAt hs (k - 1)) (houseAt hs k), refused 18 k)
+    ∷ (ltb k (length hs), overlapping k (overlapBetween (houseAt hs (k - 1)) (houseAt hs k)))
+    ∷ []
+
+abbrev pub orderLines : ℕ → List House → List Line
+orderLines l hs = orderLinesAt (firstBreach Follows l hs) hs
+
+-- 9 to 11 and 18, on a list of houses and L alone
 abbrev pub houseLines : ℕ → List House → List Line
-houseLines l hs = houseLine 9 EndsAndHeight l hs ∷ houseLine 10 RaisedQuarterdeck l hs ∷ houseLine 11 NoOverlap l hs ∷ []
+houseLines l hs = houseLine 9 EndsAndHeight l hs ∷ houseLine 10 RaisedQuarterdeck l hs ∷ orderLines l hs
 
 -- 7 and 8, on a ship's fields
 abbrev pub fieldLines : Ship → List Line
 fieldLines x = (ltb (fieldOut (fieldsOf x)) 13, refused 7 (fieldOut (fieldsOf x) + 1)) ∷ (halfCertified x, refused 8 0) ∷ []
 
--- 7 to 11, on a ship
+-- 7 to 11 and 18, on a ship
 abbrev pub shipLines : Ship → List Line
 shipLines x = fieldLines x ++ houseLines (x .length .0) (housesOf x)

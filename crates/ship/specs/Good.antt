@@ -20,12 +20,12 @@ pub record GoodHouse (l : ℕ) (h : House) : Type 0 where
   pub height-most : h .height .0 ≤ 8191
   pub quarterdeck : h .quarterdeck ≡ true → (h .enclosed ≡ true) × (h .aft .0 ≤ stationOf 0) × (h .fore .0 < stationOf l)
 
--- a list that passes 9 to 11
+-- a list that passes 9 to 11 and 18
 pub record GoodHouses (l : ℕ) (hs : List House) : Type 0 where
   pub each : (k : ℕ) → k < length hs → GoodHouse l (houseAt hs k)
   pub order : (k : ℕ) → k + 1 < length hs → houseAt hs k .fore .0 ≤ houseAt hs (k + 1) .aft .0
 
--- a ship that passes 7 to 11
+-- a ship that passes 7 to 11 and 18
 pub record Good (x : Ship) : Type 0 where
   pub length-least : 24000 ≤ x .length .0
   pub length-most : x .length .0 ≤ 365000

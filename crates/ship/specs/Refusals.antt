@@ -1,67 +1,63 @@
--- 01, "Refusals and their order": a refusal is a number and a place; the table's order is the order of checks.
+-- 01, "Refusals and their order", with 02 §1: a refusal is a number, a place and, for 11, an overlap; the table's order is the order of checks.
 use Prim.Native.Nat.{ℕ}
 use mathlib.Core.Bool.{Bool}
 use mathlib.Core.List.{List, [], _∷_}
 use Rattle.whole.specs.Pick.{pick}
 use Rattle.ship.specs.declared.refusal.Refusal.{Refusal}
-use Rattle.ship.specs.declared.refusal.Refusal.the-variants.{ShortRecord, Version, ShipType, HouseCount, RecordLength, SpareBit, FieldRange, HalfCertified, HouseExtent, Quarterdeck, Overlap, NoDraught, FreshAllowance, QuestionRange, NoRoomForPoop, NoLengthFits, ShortBuffer}
+use Rattle.ship.specs.declared.refusal.Refusal.the-variants.{ShortRecord, Version, ShipType, HouseCount, RecordLength, SpareBit, FieldRange, HalfCertified, HouseExtent, Quarterdeck, Overlap, NoDraught, FreshAllowance, QuestionRange, NoRoomForPoop, NoLengthFits, ShortBuffer, OutOfOrder}
 use Rattle.ship.specs.declared.refusal.Verdict.{Verdict}
 use Rattle.ship.specs.declared.refusal.Verdict.the-variants.{Accepted, Refused}
 
--- a verdict in 01's own terms; number 0 refuses nothing
+-- a verdict in the papers' own terms; number 0 refuses nothing
 pub record Paper : Type 0 where
   pub number : ℕ
   pub place : ℕ
+  pub overlap : ℕ
 
 abbrev pub accepted : Paper
-accepted = record { number = 0; place = 0 }
+accepted = record { number = 0; place = 0; overlap = 0 }
 
+-- every refusal but 11 has the overlap 0
 abbrev pub refused : ℕ → ℕ → Paper
-refused n p = record { number = n; place = p }
+refused n p = record { number = n; place = p; overlap = 0 }
 
--- 01's number for each case
+-- 11, with the overlap in mm
+abbrev pub overlapping : ℕ → ℕ → Paper
+overlapping p mm = record { number = 11; place = p; overlap = mm }
+
+-- the papers' number and place for each case, and the overlap of 11; the place is 0 unless named
+abbrev pub refusedAs : Refusal → Paper
+refusedAs ShortRecord = refused 1 0
+refusedAs Version = refused 2 0
+refusedAs ShipType = refused 3 0
+refusedAs HouseCount = refused 4 0
+refusedAs RecordLength = refused 5 0
+refusedAs SpareBit = refused 6 0
+refusedAs (FieldRange k) = refused 7 k
+refusedAs HalfCertified = refused 8 0
+refusedAs (HouseExtent k) = refused 9 k
+refusedAs (Quarterdeck k) = refused 10 k
+refusedAs (Overlap k mm) = overlapping k (mm .0)
+refusedAs NoDraught = refused 12 0
+refusedAs FreshAllowance = refused 13 0
+refusedAs QuestionRange = refused 14 0
+refusedAs NoRoomForPoop = refused 15 0
+refusedAs NoLengthFits = refused 16 0
+refusedAs ShortBuffer = refused 17 0
+refusedAs (OutOfOrder k) = refused 18 k
+
 abbrev pub numberOf : Refusal → ℕ
-numberOf ShortRecord = 1
-numberOf Version = 2
-numberOf ShipType = 3
-numberOf HouseCount = 4
-numberOf RecordLength = 5
-numberOf SpareBit = 6
-numberOf (FieldRange k) = 7
-numberOf HalfCertified = 8
-numberOf (HouseExtent k) = 9
-numberOf (Quarterdeck k) = 10
-numberOf (Overlap k) = 11
-numberOf NoDraught = 12
-numberOf FreshAllowance = 13
-numberOf QuestionRange = 14
-numberOf NoRoomForPoop = 15
-numberOf NoLengthFits = 16
-numberOf ShortBuffer = 17
+numberOf r = refusedAs r .number
 
--- and its place: 0 unless named
 abbrev pub placeOf : Refusal → ℕ
-placeOf ShortRecord = 0
-placeOf Version = 0
-placeOf ShipType = 0
-placeOf HouseCount = 0
-placeOf RecordLength = 0
-placeOf SpareBit = 0
-placeOf (FieldRange k) = k
-placeOf HalfCertified = 0
-placeOf (HouseExtent k) = k
-placeOf (Quarterdeck k) = k
-placeOf (Overlap k) = k
-placeOf NoDraught = 0
-placeOf FreshAllowance = 0
-placeOf QuestionRange = 0
-placeOf NoRoomForPoop = 0
-placeOf NoLengthFits = 0
-placeOf ShortBuffer = 0
+placeOf r = refusedAs r .place
+
+abbrev pub overlapOf : Refusal → ℕ
+overlapOf r = refusedAs r .overlap
 
 abbrev pub paper : Verdict → Paper
 paper Accepted = accepted
-paper (Refused r) = refused (numberOf r) (placeOf r)
+paper (Refused r) = refusedAs r
 
 -- a line of the table: whether its check fails, and what it then refuses
 abbrev pub Line : Type 0

@@ -1,8 +1,9 @@
 -- 01, "Ship record": the empty house, the ship of zeros, and when two ships are equal.
-use Prim.Native.Nat.{ℕ, _-_}
+use Prim.Native.Nat.{ℕ, _+_, _-_}
 use mathlib.Core.List.{List, _++_}
 use mathlib.Core.Path.{_≡_}
-use mathlib.Core.Bool.{false}
+use mathlib.Core.Bool.{Bool, false, _&&_}
+use lib.Dec.{leb}
 use lib.ListN.{take, replicate, getD}
 use Rattle.units.specs.Datum.{datum, lift}
 use Rattle.ship.specs.declared.House.{House}
@@ -35,6 +36,10 @@ housesOf x = take (x .n) (x .houses)
 -- the house at place k. The logic wants a house for places past the end of a list too; no definition reads so far
 abbrev pub houseAt : List House → ℕ → House
 houseAt hs k = getD hs k (record { enclosed = false; quarterdeck = false; aft = record { 0 = 0 }; fore = record { 0 = 0 }; height = record { 0 = 0 } })
+
+-- the millimetre from one station to the next lies in a house
+unfoldable pub standsOver : House → ℕ → Bool
+standsOver h station = leb (h .aft .0) station && leb (station + 1) (h .fore .0)
 
 -- the ship with its places beyond n at zero
 abbrev pub clean : Ship → Ship

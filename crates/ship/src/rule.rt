@@ -1,6 +1,6 @@
-// The rules that checks 9, 10 and 11 hold a house to.
+// The rules that checks 9, 10 and 11 or 18 hold a house to.
 pub enum Rule {
     EndsAndHeight,
     RaisedQuarterdeck,
-    NoOverlap,
+    Follows,
 }

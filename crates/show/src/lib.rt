@@ -1,4 +1,4 @@
-// Prints numbers, ships and refusals in document 01's own terms. What is printed is run and compared, not proved.
+// Prints numbers, ships and refusals in the papers' own terms. What is printed is run and compared, not proved.
 use libc::STDOUT_FILENO;
 use mark::Answer;
 use mark::Marks;
@@ -71,9 +71,14 @@ fn flag(b: bool) {
     }
 }
 
+// Number and place; the overlap for houses that overlap, and no third number for any other refusal.
 pub fn refused(r: Refusal) {
     named(b"refused", refusal::number(r));
     next(refusal::place(r));
+    let mm = refusal::overlap(r);
+    if 0 < mm {
+        next(mm);
+    }
 }
 
 fn house(h: House) {

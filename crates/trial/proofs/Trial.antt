@@ -40,7 +40,7 @@ use Rattle.trial.proofs.Passing.{poop-good}
 abbrev lines : Ship → List Line
 lines y = markLines (particularsOf y) (summerOf y)
 
--- 9 to 11 pass: the marks decide
+-- 9 to 11 and 18 pass: the marks decide
 houses-passed : (y : Ship) (wish : ℕ) → first (houseLines (y .length .0) (housesOf y)) ≡ accepted → within (lines y) (summerOf y) wish ≡ marksWithin y wish
 unfolding marksWithin within
 houses-passed y wish e =

@@ -48,10 +48,10 @@ withPoop height k x = pick (eqb k 0) x (withFirst (poopHouse height k) x)
 unfoldable pub within : List Line → ℕ → ℕ → Bool
 within ts S wish = eqb (first ts .number) 0 && leb S wish
 
--- the whole calculation on a ship's list of houses, 9 to 13, gives marks with S at most the wish
+-- the whole calculation on a ship's list of houses, 9 to 13 and 18, gives marks with S at most the wish
 unfoldable pub marksWithin : Ship → ℕ → Bool
 marksWithin y wish = within (houseLines (y .length .0) (housesOf y) ++ markLines (particularsOf y) (summerOf y)) (summerOf y) wish
 
--- k fits: any of 9 to 13 on the new list only makes it unfit
+-- k fits: any of 9 to 13 or 18 on the new list only makes it unfit
 unfoldable pub fitsAt : Ship → ℕ → ℕ → ℕ → Bool
 fitsAt x height wish k = marksWithin (withPoop height k x) wish

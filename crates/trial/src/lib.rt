@@ -103,7 +103,7 @@ fn marked(q: Standing, s: u64) -> bool
     }
 }
 
-// Whether a poop of `k` decimetres fits. Of checks 9 to 11 only the overlap with the first house can refuse it.
+// Whether a poop of `k` decimetres fits. Of checks 9 to 11 and 18 only the overlap with the first house can refuse it.
 pub fn fits(q: Standing, k: u64) -> bool
     requires { ⌜ Fair q × (100 * k ≤ q .hull .length .0) ⌝ }
     ensures { λ r. ⌜ r ≡ fitsOn q k ⌝ }

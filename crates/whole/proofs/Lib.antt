@@ -1,4 +1,5 @@
 pub mod Pick
+pub mod Count
 pub mod Divide
 pub mod Frac
 pub mod Round

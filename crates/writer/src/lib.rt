@@ -53,7 +53,7 @@ fn put_record(buf: &mut [u8], x: Ship)
     house_writer::put_houses(buf, houses, x.n);
 }
 
-// The verdict on writing a ship into `room` bytes: refusals 3, 4, 7 to 11 and 17, in the table's order.
+// The verdict on writing a ship into `room` bytes: refusals 3, 4, 7 to 11, 18 and 17, in the table's order.
 fn verdict(x: Ship, room: usize) -> Verdict
     ensures { λ v. ⌜ paper v ≡ writingOf room x ⌝ }
 {

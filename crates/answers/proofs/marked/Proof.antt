@@ -35,6 +35,7 @@ marked-spec =
     λ i. record {
       refusal = 0;
       place = 0;
+      overlap = 0;
       s = back (m .s) (k .s) _ (s .with-sign .ensures) i;
       t = back (m .t) (k .t) _ (t .with-sign2 .ensures) i;
       w = back (m .w) (k .w) _ (w .with-sign3 .ensures) i;

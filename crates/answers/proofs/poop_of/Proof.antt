@@ -14,7 +14,10 @@ poop-of-spec =
     (λ c. search needs)
     (λ c κs. search needs)
     (λ c κs. search needs)
+    (λ c κs. search needs)
     (λ c. ap fromReply (sym (ap reply (c .before .a .given .1))))
     (λ c.
-    let a = c .before .before .before in
-    (λ i. record { refusal = c .before .number .ensures i; place = c .place .ensures i; decimetres = 0 }) ∙ ap fromReply (sym (ap reply (a .a2 .given .1)))))
+    let p = c .before in
+    let n = p .before in
+    let a = n .before .before in
+    (λ i. record { refusal = n .number .ensures i; place = p .place .ensures i; overlap = c .overlap .ensures i; decimetres = 0 }) ∙ ap fromReply (sym (ap reply (a .a2 .given .1)))))

@@ -11,5 +11,7 @@ unmarked-spec =
     (tie.spec
     (λ c κs. search needs)
     (λ c κs. search needs)
+    (λ c κs. search needs)
     (λ c.
-    λ i. record { refusal = c .before .number .ensures i; place = c .place .ensures i; s = pos 0; t = pos 0; w = pos 0; wna = pos 0; f = pos 0; tf = pos 0 }))
+    let p = c .before in
+    λ i. record { refusal = p .before .number .ensures i; place = p .place .ensures i; overlap = c .overlap .ensures i; s = pos 0; t = pos 0; w = pos 0; wna = pos 0; f = pos 0; tf = pos 0 }))

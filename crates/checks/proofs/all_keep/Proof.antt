@@ -10,7 +10,7 @@ use native.Mathlib.Omega.{arith}
 use borrow.Author.Needs.{needs}
 use Rattle.ship.specs.declared.House.{House}
 use Rattle.ship.specs.declared.rule.Rule.{Rule}
-use Rattle.ship.specs.declared.rule.Rule.the-variants.{EndsAndHeight, RaisedQuarterdeck, NoOverlap}
+use Rattle.ship.specs.declared.rule.Rule.the-variants.{EndsAndHeight, RaisedQuarterdeck, Follows}
 use Rattle.ship.specs.Checks.{breaks, breachAt, foreBefore, firstBreach, firstFrom}
 use Rattle.ship.proofs.First.{first-pass, first-end}
 use Rattle.ship.proofs.Lines.{or-false}
@@ -26,11 +26,11 @@ abbrev μ-loop : tie.MeasureT-loop
 μ-loop l n houses reached₀ k₀ reached k = n - k
 
 -- a house that breaks none of the three keeps each
-each : (l before : ℕ) (h : House) → (breaks EndsAndHeight l before h || breaks RaisedQuarterdeck l before h || breaks NoOverlap l before h) ≡ false → (r : Rule) → breaks r l before h ≡ false
+each : (l before : ℕ) (h : House) → (breaks EndsAndHeight l before h || breaks RaisedQuarterdeck l before h || breaks Follows l before h) ≡ false → (r : Rule) → breaks r l before h ≡ false
 each l before h e r =
-    let p = or-false (breaks EndsAndHeight l before h || breaks RaisedQuarterdeck l before h) (breaks NoOverlap l before h) e in
+    let p = or-false (breaks EndsAndHeight l before h || breaks RaisedQuarterdeck l before h) (breaks Follows l before h) e in
     let q = or-false (breaks EndsAndHeight l before h) (breaks RaisedQuarterdeck l before h) (p .0) in
-    elim r [ EndsAndHeight ↦ q .0 | RaisedQuarterdeck ↦ q .1 | NoOverlap ↦ p .1 ]
+    elim r [ EndsAndHeight ↦ q .0 | RaisedQuarterdeck ↦ q .1 | Follows ↦ p .1 ]
 
 keeps : (c : tie.Else1 Inv-loop μ-loop) (r : Rule)
     → let l = c .before .before .before .before in

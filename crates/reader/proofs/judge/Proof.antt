@@ -2,7 +2,7 @@ use mathlib.Core.Path.{_≡_, sym, ap, _∙_}
 use borrow.Author.Needs.{needs}
 use Rattle.whole.specs.Pick.{pick}
 use Rattle.ship.specs.declared.refusal.Verdict.{Verdict}
-use Rattle.ship.specs.Refusals.{Paper, refused, numberOf, placeOf, paper, first}
+use Rattle.ship.specs.Refusals.{Paper, paper, refusedAs, first}
 use Rattle.ship.specs.Checks.{shipLines}
 use Rattle.record.specs.Reading.{readingOf}
 use Rattle.record.proofs.Framed.{reading-refused}
@@ -29,5 +29,5 @@ judge-spec =
     let v = c .before .before in
     let o = v .before .before in
     let r = v .v .given .0 .0 in
-    (λ i. record { verdict = refused (numberOf r) (placeOf r); ship = c .no-ship .ensures i })
+    (λ i. record { verdict = refusedAs r; ship = c .no-ship .ensures i })
     ∙ sym (told o _ (v .v .given .1) ∙ reading-refused r (o .before .args .x))))

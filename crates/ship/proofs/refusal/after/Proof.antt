@@ -1,7 +1,7 @@
 use mathlib.Core.Path.{refl, sym}
 use borrow.Author.Needs.{needs}
 use Rattle.whole.specs.Pick.{pick}
-use Rattle.ship.specs.Refusals.{paper, refused, numberOf, placeOf}
+use Rattle.ship.specs.Refusals.{paper, refusedAs}
 use Rattle.ship.proofs.Lines.{beside-refusal}
 use Rattle.ship.proofs.refusal.after.Statement.{statement}
 use Rattle.ship.proofs.refusal.after.Tie as tie
@@ -17,4 +17,4 @@ after-spec =
     (λ c.
     let v = c .before in
     let r = v .v .given .0 .0 in
-    rw (v .v .given .1) (sym (beside-refusal r (paper (v .before .before .args .below)) (refused (numberOf r) (placeOf r))))))
+    rw (v .v .given .1) (sym (beside-refusal r (paper (v .before .before .args .below)) (refusedAs r)))))

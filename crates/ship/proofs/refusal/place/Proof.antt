@@ -1,6 +1,6 @@
 use mathlib.Core.Path.{sym, ap}
-use Rattle.ship.specs.Refusals.{placeOf}
 use borrow.Author.Needs.{needs}
+use Rattle.ship.specs.Refusals.{placeOf}
 use Rattle.ship.proofs.refusal.place.Statement.{statement}
 use Rattle.ship.proofs.refusal.place.Tie as tie
 
@@ -26,11 +26,12 @@ place-spec =
     (λ c. search needs)
     (λ c. search needs)
     (λ c. search needs)
-    (λ c. search needs)
-    (λ c. search needs)
-    (λ c. search needs)
-    (λ c. search needs)
-    (λ c. search needs)
+    (λ c. sym (ap placeOf (c .enum-told .given .1)))
+    (λ c. sym (ap placeOf (c .enum-told2 .given .1)))
+    (λ c. sym (ap placeOf (c .enum-told3 .given .1)))
+    (λ c. sym (ap placeOf (c .enum-told4 .given .1)))
+    (λ c. sym (ap placeOf (c .enum-told5 .given .1)))
+    (λ c. sym (ap placeOf (c .enum-told6 .given .1)))
     (λ c. sym (ap placeOf (c .before .r .given .1)))
     (λ c. sym (ap placeOf (c .enum-told7 .given .1)))
     (λ c. sym (ap placeOf (c .before .r2 .given .1)))
@@ -41,4 +42,5 @@ place-spec =
     (λ c. sym (ap placeOf (c .enum-told10 .given .1)))
     (λ c. sym (ap placeOf (c .enum-told11 .given .1)))
     (λ c. sym (ap placeOf (c .enum-told12 .given .1)))
-    (λ c. sym (ap placeOf (c .enum-told13 .given .1))))
+    (λ c. sym (ap placeOf (c .enum-told13 .given .1)))
+    (λ c. sym (ap placeOf (c .before .r5 .given .1))))

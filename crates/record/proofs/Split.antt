@@ -1,0 +1,38 @@
+-- 02 §1 in every call on bytes, the reader first of all, and in the writer: `Split` of ship/proofs/Split.antt says what has become of refusal 11.
+use Prim.Native.Nat.{ℕ}
+use mathlib.Core.List.{List, [], _∷_, _++_}
+use native.Mathlib.Omega.{arith}
+use lib.Dec.{ltb}
+use Rattle.ship.specs.declared.Ship.{Ship}
+use Rattle.ship.specs.Vessel.{housesOf}
+use Rattle.ship.specs.Refusals.{Paper, Line, refused, first}
+use Rattle.ship.specs.Checks.{fieldLines, shipLines}
+use Rattle.ship.proofs.Split.{Split, AllPlain, shipLines01, split-lines}
+use Rattle.record.specs.Layout.{recordLength, lastType, mostHouses, shipIn}
+use Rattle.record.specs.Reading.{frameLines, readingIn}
+use Rattle.record.specs.Writing.{writingOf}
+
+-- of a ship
+abbrev pub SplitOn : Ship → Paper → Paper → Type 0
+SplitOn x = Split (x .length .0) (housesOf x)
+
+-- a call on bytes, with its own lines behind the reading's
+pub split-call : (s : List ℕ) (more : List Line) → AllPlain more
+    → SplitOn (shipIn s) (first (frameLines s ++ shipLines (shipIn s) ++ more)) (first (frameLines s ++ shipLines01 (shipIn s) ++ more))
+split-call s more a =
+    let x = shipIn s in
+    split-lines (x .length .0) (housesOf x) (frameLines s ++ fieldLines x) more (omega arith) a
+
+pub split-read : (s : List ℕ) → SplitOn (shipIn s) (readingIn s .verdict) (first (frameLines s ++ shipLines01 (shipIn s)))
+unfolding readingIn
+split-read s = split-call s [] tt
+
+pub split-write : (room : ℕ) (x : Ship)
+    → let three : Line = (ltb lastType (x .kind), refused 3 0) in
+    let four : Line = (ltb mostHouses (x .n), refused 4 0) in
+    let seventeen : Line = (ltb room (recordLength (x .n)), refused 17 0) in
+    SplitOn x (writingOf room x) (first (three ∷ four ∷ shipLines01 x ++ (seventeen ∷ [])))
+unfolding writingOf
+split-write room x =
+    split-lines (x .length .0) (housesOf x)
+    ((ltb lastType (x .kind), refused 3 0) ∷ (ltb mostHouses (x .n), refused 4 0) ∷ fieldLines x) ((ltb room (recordLength (x .n)), refused 17 0) ∷ []) (omega arith) (omega arith)

@@ -1,0 +1,236 @@
+-- 02 §1: what has become of 01's refusal 11, for every list of houses and every call that checks one.
+use Prim.Native.Nat.{ℕ, zero, suc, _+_, _-_, _≤_, _<_, min, max}
+use mathlib.Core.Bool.{Bool, true, false, true≢false, _&&_, and-eq-true-iff}
+use mathlib.Core.List.{List, [], _∷_, _++_}
+use mathlib.Core.Path.{_≡_, refl, sym, _∙_}
+use native.Mathlib.Omega.{arith}
+use native.Mathlib.Numerals.{add-one}
+use borrow.Author.Tests.{ltb-true, ltb-false, leb-true, le-leb, eqb-true, ne-eqb}
+use lib.Dec.{eqb, ltb, leb}
+use lib.ListN.{length}
+use Rattle.whole.specs.Pick.{pick}
+use Rattle.whole.specs.Count.{count}
+use Rattle.whole.proofs.Count.{count-same, count-between}
+use Rattle.units.specs.Datum.{stationOf}
+use Rattle.ship.specs.declared.House.{House}
+use Rattle.ship.specs.declared.rule.Rule.the-variants.{EndsAndHeight, RaisedQuarterdeck, Follows}
+use Rattle.ship.specs.declared.Ship.{Ship}
+use Rattle.ship.specs.Vessel.{housesOf, houseAt, standsOver}
+use Rattle.ship.specs.Refusals.{Paper, Line, refused, overlapping, first}
+use Rattle.ship.specs.Checks.{foreBefore, breaks, breachAt, firstBreach, houseLine, outOfOrder, overlapBetween, orderLines, houseLines, fieldLines}
+use Rattle.ship.proofs.First.{found-fails}
+use Rattle.ship.proofs.Accepted.{obeys, ends-of}
+
+-- ---- in what words
+-- a verdict as 01 gave it: 18 was 11, and no refusal had an overlap
+abbrev pub joined : Paper → Paper
+joined p = refused (pick (eqb (p .number) 18) 11 (p .number)) (p .place)
+
+-- 01's lines of 9 to 11
+abbrev pub houseLines01 : ℕ → List House → List Line
+houseLines01 l hs = houseLine 9 EndsAndHeight l hs ∷ houseLine 10 RaisedQuarterdeck l hs ∷ houseLine 11 Follows l hs ∷ []
+
+abbrev pub shipLines01 : Ship → List Line
+shipLines01 x = fieldLines x ++ houseLines01 (x .length .0) (housesOf x)
+
+-- houses in order of their aft ends, as a script sorts them
+abbrev pub Sorted : List House → Type 0
+Sorted hs = (k : ℕ) → k + 1 < length hs → houseAt hs k .aft .0 ≤ houseAt hs (k + 1) .aft .0
+
+-- the millimetre from a station to the next lies in both of two houses
+abbrev pub inBoth : House → House → ℕ → Bool
+inBoth g h station = standsOver g station && standsOver h station
+
+-- the verdict on a ship of length l with these houses, beside the one that 01 gave
+pub record Split (l : ℕ) (hs : List House) (new old : Paper) : Type 0 where
+  -- 11 or 18 is given exactly where 11 was, at the same place, and no other verdict has changed
+  pub joins : joined new ≡ old
+  -- houses in order of their aft ends are never refused with 18
+  pub sorted : Sorted hs → ¬ (new .number ≡ 18)
+  -- the overlap of 11 is at least 1, and the number of whole millimetres that lie in both houses: all houses end within L + 20000
+  pub overlap : new .number ≡ 11
+      → (1 ≤ new .overlap) × (new .overlap ≡ count (inBoth (houseAt hs (new .place - 1)) (houseAt hs (new .place))) (stationOf (l + 20000)))
+  -- beside any other verdict it is 0
+  pub none : ¬ (new .number ≡ 11) → new .overlap ≡ 0
+
+-- ---- counting
+same-bool : (p q : Bool) → (p ≡ true → q ≡ true) → (q ≡ true → p ≡ true) → p ≡ q
+same-bool true q f g = sym (f refl)
+same-bool false true f g = g refl
+same-bool false false f g = refl
+
+module _ (g h : House) where
+  -- in both: forward of both aft ends, abaft both fore ends
+  in-both : (j : ℕ) → inBoth g h j ≡ (leb (max (g .aft .0) (h .aft .0)) (0 + j) && leb (0 + j + 1) (min (g .fore .0) (h .fore .0)))
+  unfolding standsOver
+  in-both j =
+      let a = g .aft .0 in
+      let f = g .fore .0 in
+      let b = h .aft .0 in
+      let e = h .fore .0 in
+      same-bool (inBoth g h j) (leb (max a b) (0 + j) && leb (0 + j + 1) (min f e))
+      (λ t.
+      let p = and-eq-true-iff (standsOver g j) (standsOver h j) .0 t in
+      let q = and-eq-true-iff (leb a j) (leb (j + 1) f) .0 (p .0) in
+      let r = and-eq-true-iff (leb b j) (leb (j + 1) e) .0 (p .1) in
+      let m = leb-true a j (q .0) in
+      let n = leb-true (j + 1) f (q .1) in
+      let u = leb-true b j (r .0) in
+      let v = leb-true (j + 1) e (r .1) in
+      and-eq-true-iff (leb (max a b) (0 + j)) (leb (0 + j + 1) (min f e)) .1 (le-leb (max a b) (0 + j) (omega arith), le-leb (0 + j + 1) (min f e) (omega arith)))
+      (λ t.
+      let p = and-eq-true-iff (leb (max a b) (0 + j)) (leb (0 + j + 1) (min f e)) .0 t in
+      let m = leb-true (max a b) (0 + j) (p .0) in
+      let n = leb-true (0 + j + 1) (min f e) (p .1) in
+      and-eq-true-iff (standsOver g j) (standsOver h j) .1 (
+        and-eq-true-iff (leb a j) (leb (j + 1) f) .1 (le-leb a j (omega arith), le-leb (j + 1) f (omega arith)),
+        and-eq-true-iff (leb b j) (leb (j + 1) e) .1 (le-leb b j (omega arith), le-leb (j + 1) e (omega arith)),
+      ))
+
+  count-both : (n : ℕ) → h .fore .0 ≤ n → g .aft .0 ≤ h .aft .0 → overlapBetween g h ≡ count (inBoth g h) n
+  count-both n end order =
+      let c = count-same (inBoth g h) (λ j. leb (max (g .aft .0) (h .aft .0)) (0 + j) && leb (0 + j + 1) (min (g .fore .0) (h .fore .0))) n in-both in
+      let s = count-between 0 (max (g .aft .0) (h .aft .0)) (min (g .fore .0) (h .fore .0)) n in
+      omega (arith, c, s)
+
+-- ---- the first house that reaches back over the one before it
+module _ (l : ℕ) (hs : List House) where
+  abbrev place : ℕ
+  place = firstBreach Follows l hs
+
+  reaches : (k : ℕ) → breachAt Follows l hs k ≡ true → (1 ≤ k) × (houseAt hs k .aft .0 < houseAt hs (k - 1) .fore .0)
+  unfolding breachAt breaks
+  reaches zero e = absurd (omega (arith, ltb-true (houseAt hs 0 .aft .0) 0 e))
+  reaches (suc k) e = let b : suc k - 1 ≡ k = omega arith in (omega arith, rw b (ltb-true (houseAt hs (suc k) .aft .0) (houseAt hs k .fore .0) e))
+
+  -- it is not the first of the list
+  pub first-reaches : place < length hs → (1 ≤ place) × (houseAt hs place .aft .0 < houseAt hs (place - 1) .fore .0)
+  unfolding firstBreach
+  first-reaches h = reaches place (found-fails (breachAt Follows l hs) 0 (length hs) (omega arith))
+
+  -- in a list in order of aft ends it is not out of order
+  never-late : Sorted hs → (k : ℕ) → 1 ≤ k → k < length hs → outOfOrder (houseAt hs (k - 1)) (houseAt hs k) ≡ true → ⊥
+  never-late o zero m n e = omega arith
+  never-late o (suc k) m n e =
+      let b : suc k - 1 ≡ k = omega arith in
+      let late = ltb-true (houseAt hs (suc k) .aft .0) (houseAt hs k .aft .0) (rw b at e) in
+      omega (arith, late, rw (add-one k) at (o k (omega arith)))
+
+  -- where 9 passes and it is not out of order, it overlaps
+  overlaps : ltb (firstBreach EndsAndHeight l hs) (length hs) ≡ false → place < length hs → outOfOrder (houseAt hs (place - 1)) (houseAt hs place) ≡ false
+      → let mm = overlapBetween (houseAt hs (place - 1)) (houseAt hs place) in
+      (1 ≤ mm) × (mm ≡ count (inBoth (houseAt hs (place - 1)) (houseAt hs place)) (stationOf (l + 20000)))
+  unfolding breaks
+  overlaps nine h e =
+      let r = first-reaches h in
+      let o = ltb-false (houseAt hs place .aft .0) (houseAt hs (place - 1) .aft .0) e in
+      let ends = ends-of l (houseAt hs place) (obeys EndsAndHeight l hs (ltb-false (firstBreach EndsAndHeight l hs) (length hs) nine) place h) in
+      (omega (arith, ends .0), count-both (houseAt hs (place - 1)) (houseAt hs place) (stationOf (l + 20000)) (ends .4) o)
+
+-- ---- along the lines
+-- no part of 02 §1: neither 11 nor 18, and no overlap
+abbrev pub Plain : Paper → Type 0
+Plain p = (¬ (p .number ≡ 11)) × (¬ (p .number ≡ 18)) × (p .overlap ≡ 0)
+
+abbrev pub AllPlain : List Line → Type 0
+AllPlain [] = Unit {0}
+AllPlain (t ∷ ts) = Plain (t .1) × AllPlain ts
+
+module _ (l : ℕ) (hs : List House) where
+  pub split-plain : (p : Paper) → Plain p → Split l hs p p
+  unfolding pick
+  split-plain p q = record {
+    joins = rw (ne-eqb (p .number) 18 (q .1)) (sym (λ i. record { number = p .number; place = p .place; overlap = q .2 i }));
+    sorted = λ s. q .1;
+    overlap = λ e. absurd (q .0 e);
+    none = λ n. q .2;
+  }
+
+  first-plain : (ts : List Line) → AllPlain ts → Plain (first ts)
+  unfolding first pick
+  first-plain [] a = (λ e. omega arith, λ e. omega arith, refl)
+  first-plain (t ∷ ts) a = go (t .0) (first-plain ts (a .1))
+    where
+      go : (b : Bool) → Plain (first ts) → Plain (pick b (t .1) (first ts))
+      go true p = a .0
+      go false p = p
+
+  -- plain lines before others
+  split-behind : (ts us vs : List Line) → AllPlain ts → Split l hs (first us) (first vs) → Split l hs (first (ts ++ us)) (first (ts ++ vs))
+  unfolding first pick
+  split-behind [] us vs a s = s
+  split-behind (t ∷ ts) us vs a s = go (t .0) (split-behind ts us vs (a .1) s)
+    where
+      go : (b : Bool) → Split l hs (first (ts ++ us)) (first (ts ++ vs)) → Split l hs (pick b (t .1) (first (ts ++ us))) (pick b (t .1) (first (ts ++ vs)))
+      go true r = split-plain (t .1) (a .0)
+      go false r = r
+
+  -- 9 to 11 and 18, before plain lines
+  split-houses : (us : List Line) → AllPlain us → Split l hs (first (houseLines l hs ++ us)) (first (houseLines01 l hs ++ us))
+  unfolding first pick
+  split-houses us a = nine (ltb (firstBreach EndsAndHeight l hs) (length hs)) refl
+    where
+      k : ℕ
+      k = firstBreach Follows l hs
+
+      late : Bool
+      late = outOfOrder (houseAt hs (k - 1)) (houseAt hs k)
+
+      mm : ℕ
+      mm = overlapBetween (houseAt hs (k - 1)) (houseAt hs k)
+
+      deck : Bool
+      deck = ltb (firstBreach RaisedQuarterdeck l hs) (length hs)
+
+      order : (b c : Bool) → ltb (firstBreach EndsAndHeight l hs) (length hs) ≡ false → ltb k (length hs) ≡ b → late ≡ c
+          → Split l hs (pick (b && c) (refused 18 k) (pick b (overlapping k mm) (first us))) (pick b (refused 11 k) (first us))
+      order false c e h m = split-plain (first us) (first-plain us a)
+      order true true e h m =
+          let r = ltb-true k (length hs) h in
+          record {
+            joins = refl;
+            sorted = λ o z. never-late l hs o k (first-reaches l hs r .0) r m;
+            overlap = λ z. absurd (omega arith);
+            none = λ n. refl;
+          }
+      order true false e h m =
+          record {
+            joins = refl;
+            sorted = λ o z. omega arith;
+            overlap = λ z. overlaps l hs e (ltb-true k (length hs) h) m;
+            none = λ n. absurd (n refl);
+          }
+
+      ten : (b : Bool) → ltb (firstBreach EndsAndHeight l hs) (length hs) ≡ false
+          → Split l hs (pick b (refused 10 (firstBreach RaisedQuarterdeck l hs)) (first (orderLines l hs ++ us)))
+          (pick b (refused 10 (firstBreach RaisedQuarterdeck l hs)) (first (houseLine 11 Follows l hs ∷ us)))
+      ten true e = split-plain (refused 10 (firstBreach RaisedQuarterdeck l hs)) (λ z. omega arith, λ z. omega arith, refl)
+      ten false e = order (ltb k (length hs)) late e refl refl
+
+      nine : (b : Bool) → ltb (firstBreach EndsAndHeight l hs) (length hs) ≡ b
+          → Split l hs (pick b (refused 9 (firstBreach EndsAndHeight l hs)) (first (houseLine 10 RaisedQuarterdeck l hs ∷ (orderLines l hs ++ us))))
+          (pick b (refused 9 (firstBreach EndsAndHeight l hs)) (first (houseLine 10 RaisedQuarterdeck l hs ∷ houseLine 11 Follows l hs ∷ us)))
+      nine true e = split-plain (refused 9 (firstBreach EndsAndHeight l hs)) (λ z. omega arith, λ z. omega arith, refl)
+      nine false e = ten deck e
+
+  -- what a call says where its lines accept: it accepts by the same lines as before
+  same-zero : (new : Paper) → eqb (joined new .number) 0 ≡ eqb (new .number) 0
+  unfolding pick
+  same-zero new = go (eqb (new .number) 18) refl
+    where
+      go : (b : Bool) → eqb (new .number) 18 ≡ b → eqb (pick b 11 (new .number)) 0 ≡ eqb (new .number) 0
+      go true e = rw (eqb-true (new .number) 18 e) refl
+      go false e = refl
+
+  pub split-answer : (new old v : Paper) → Plain v → Split l hs new old → Split l hs (pick (eqb (new .number) 0) v new) (pick (eqb (old .number) 0) v old)
+  unfolding pick
+  split-answer new old v p s = rw (← s .joins) (rw (same-zero new) (go (eqb (new .number) 0)))
+    where
+      go : (b : Bool) → Split l hs (pick b v new) (pick b v (joined new))
+      go true = split-plain v p
+      go false = rw (s .joins) s
+
+  -- THE LAW, over the lines that stand before and after: those of each call
+  pub split-lines : (ts us : List Line) → AllPlain ts → AllPlain us
+      → Split l hs (first (ts ++ (houseLines l hs ++ us))) (first (ts ++ (houseLines01 l hs ++ us)))
+  split-lines ts us a b = split-behind ts (houseLines l hs ++ us) (houseLines01 l hs ++ us) a (split-houses us b)

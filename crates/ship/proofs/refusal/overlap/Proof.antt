@@ -1,0 +1,46 @@
+use mathlib.Core.Path.{sym, ap}
+use borrow.Author.Needs.{needs}
+use Rattle.ship.specs.Refusals.{overlapOf}
+use Rattle.ship.proofs.refusal.overlap.Statement.{statement}
+use Rattle.ship.proofs.refusal.overlap.Tie as tie
+
+pub overlap-spec : {M : Type 1} → statement M
+overlap-spec =
+    tie.close
+    (tie.spec
+    (λ c. search needs)
+    (λ c. search needs)
+    (λ c. search needs)
+    (λ c. search needs)
+    (λ c. search needs)
+    (λ c. search needs)
+    (λ c. search needs)
+    (λ c. search needs)
+    (λ c. search needs)
+    (λ c. search needs)
+    (λ c. search needs)
+    (λ c. search needs)
+    (λ c. search needs)
+    (λ c. search needs)
+    (λ c. search needs)
+    (λ c. search needs)
+    (λ c. search needs)
+    (λ c. search needs)
+    (λ c. sym (ap overlapOf (c .enum-told .given .1)))
+    (λ c. sym (ap overlapOf (c .enum-told2 .given .1)))
+    (λ c. sym (ap overlapOf (c .enum-told3 .given .1)))
+    (λ c. sym (ap overlapOf (c .enum-told4 .given .1)))
+    (λ c. sym (ap overlapOf (c .enum-told5 .given .1)))
+    (λ c. sym (ap overlapOf (c .enum-told6 .given .1)))
+    (λ c. sym (ap overlapOf (c .enum-told7 .given .1)))
+    (λ c. sym (ap overlapOf (c .enum-told8 .given .1)))
+    (λ c. sym (ap overlapOf (c .enum-told9 .given .1)))
+    (λ c. sym (ap overlapOf (c .enum-told10 .given .1)))
+    (λ c. sym (ap overlapOf (c .before .r .given .1)))
+    (λ c. sym (ap overlapOf (c .enum-told11 .given .1)))
+    (λ c. sym (ap overlapOf (c .enum-told12 .given .1)))
+    (λ c. sym (ap overlapOf (c .enum-told13 .given .1)))
+    (λ c. sym (ap overlapOf (c .enum-told14 .given .1)))
+    (λ c. sym (ap overlapOf (c .enum-told15 .given .1)))
+    (λ c. sym (ap overlapOf (c .enum-told16 .given .1)))
+    (λ c. sym (ap overlapOf (c .enum-told17 .given .1))))

@@ -33,7 +33,7 @@ typedef struct {
     uint8_t record[ROOM]; /* as the calls left it */
 } answer;
 
-_Static_assert(sizeof(request) == 768 && sizeof(answer) == 1040, "no padding");
+_Static_assert(sizeof(request) == 768 && sizeof(answer) == 1080, "no padding");
 
 static request requests[BATCH];
 static answer answers[BATCH];

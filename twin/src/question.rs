@@ -4,7 +4,7 @@ use crate::marks;
 use crate::record::{self, House, Ship, MAX_HOUSES};
 use crate::refusal::Refusal;
 
-/// The shortest poop in dm, from a record: refusals 1 to 11, then 14, 15, 16.
+/// The shortest poop in dm, from a record: refusals 1 to 11 and 18, then 14, 15, 16.
 pub fn shortest_poop(bytes: &[u8], height: u64, wish: u64) -> Result<i64, Refusal> {
     let ship = record::read(bytes)?;
     let asked_well = (1..=8_191).contains(&height) && (50..=60_000).contains(&wish);
@@ -26,7 +26,7 @@ pub fn shortest_poop(bytes: &[u8], height: u64, wish: u64) -> Result<i64, Refusa
         .ok_or(Refusal::at(Refusal::NOTHING_FITS, 0))
 }
 
-/// The summer mark with a poop of k dm before the other houses, or one of refusals 9 to 13.
+/// The summer mark with a poop of k dm before the other houses, or one of refusals 9 to 13 and 18.
 pub fn summer_with_poop(ship: &Ship, height: u64, k: i64) -> Result<i64, Refusal> {
     match k {
         0 => summer(ship),

@@ -248,4 +248,74 @@ impl Random {
                 house.enclosed && house.aft <= 0 && house.fore < length && self.once_in(2);
         }
     }
+
+    /// Houses that pass refusals 9 and 10, each drawn by the one before: clear of it, touching it, or
+    /// about it, where 11 and 18 are near each other. A list may have several such houses or none.
+    pub fn put_list(&mut self, houses: &mut [House], length: i64) {
+        let aft = match self.between(1, 12) {
+            1 => self.pick(&[-20_000, -19_999]),
+            2..=4 => -self.between(0, 2_000),
+            5 | 6 => self.between(-1, 1),
+            7 => length - self.between(1, 2_000),
+            _ => self.between(0, length / 2),
+        };
+        let most = if self.once_in(4) { length + 40_000 } else { length / 16 };
+        let mut ends = (aft, aft + self.between(1, most));
+        let about = self.pick(&[2, 6, 16]);
+        for house in houses {
+            *house = self.listed(ends, length);
+            ends = (house.aft, house.fore);
+            ends = if self.once_in(about) { self.about(ends) } else { self.clear(ends, length) };
+        }
+    }
+
+    /// A house with these ends, as far as refusal 9 lets it have them.
+    fn listed(&mut self, (aft, fore): (i64, i64), length: i64) -> House {
+        let aft = aft.clamp(-20_000, length - 1);
+        let fore = fore.clamp((aft + 1).max(1), length + 20_000);
+        let enclosed = !self.once_in(3);
+        let quarterdeck = enclosed && aft <= 0 && fore < length && self.once_in(2);
+        House { enclosed, quarterdeck, aft, fore, height: self.between(1, 8_191) as u64 }
+    }
+
+    /// Ends before these, or touching.
+    fn clear(&mut self, (_, last): (i64, i64), length: i64) -> (i64, i64) {
+        let aft = match self.between(1, 3) {
+            1 => last + self.between(0, 1),
+            _ => last + self.between(0, length / 24),
+        };
+        (aft, aft + self.between(1, length / 16))
+    }
+
+    /// Ends equal to these or 1 mm off, within them, or abaft them.
+    fn about(&mut self, (first, last): (i64, i64)) -> (i64, i64) {
+        let aft = match self.between(1, 8) {
+            1 | 2 => last - self.between(0, 2),
+            3..=5 => first + self.between(-1, 1),
+            6 => self.between(first, last),
+            _ => first - self.between(1, 20_000),
+        };
+        let fore = match self.between(1, 8) {
+            1..=3 => last + self.between(-1, 1),
+            4 => first + self.between(-1, 1),
+            5 => aft + 1,
+            6 => self.between(first, last),
+            _ => last + self.between(1, 20_000),
+        };
+        (aft, fore)
+    }
+
+    /// Changes one of the houses so that refusal 9 or 10 takes it, most often with its ends as they
+    /// were.
+    pub fn spoil(&mut self, houses: &mut [House], length: i64) {
+        let place = self.between(0, houses.len() as i64 - 1) as usize;
+        let house = &mut houses[place];
+        match self.between(1, 6) {
+            1 | 2 => house.height = 0,
+            3 => house.fore = house.aft,
+            4 => house.fore = length + 20_001,
+            5 => (house.quarterdeck, house.fore) = (true, length),
+            _ => (house.quarterdeck, house.enclosed) = (true, false),
+        }
+    }
 }

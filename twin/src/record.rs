@@ -91,7 +91,7 @@ pub struct RawShip {
     pub houses: [House; MAX_HOUSES],
 }
 
-/// A ship that passed refusals 3, 4 and 7 to 11.
+/// A ship that passed refusals 3, 4, 7 to 11 and 18.
 #[derive(Clone, Debug, PartialEq, Eq)]
 pub struct Ship {
     pub kind: Kind,
@@ -111,7 +111,7 @@ pub fn record_bytes(n: usize) -> usize {
     HEADER_BYTES + HOUSE_BYTES * n
 }
 
-/// Reads a record: refusals 1 to 11.
+/// Reads a record: refusals 1 to 11 and 18.
 pub fn read(bytes: &[u8]) -> Result<Ship, Refusal> {
     Refusal::unless(bytes.len() >= HEADER_BYTES, Refusal::SHORT_RECORD)?;
     let mut header = BitReader::new(&bytes[..HEADER_BYTES]);
@@ -152,8 +152,8 @@ pub fn read(bytes: &[u8]) -> Result<Ship, Refusal> {
     raw.check()
 }
 
-/// Writes a ship: refusals 3, 4, 7 to 11 and 17. Gives the record's length. A refusal changes no
-/// byte; an accepted write changes the record's bytes only.
+/// Writes a ship: refusals 3, 4, 7 to 11 and 18, and 17 last. Gives the record's length. A refusal
+/// changes no byte; an accepted write changes the record's bytes only.
 pub fn write(buffer: &mut [u8], raw: &RawShip) -> Result<usize, Refusal> {
     let (_, count) = raw.check_all()?;
     let length = record_bytes(count);
@@ -192,7 +192,7 @@ pub fn pack(record: &mut [u8], raw: &RawShip) {
 }
 
 impl RawShip {
-    /// The ship, if it passes refusals 3, 4 and 7 to 11.
+    /// The ship, if it passes refusals 3, 4, 7 to 11 and 18.
     pub fn check(&self) -> Result<Ship, Refusal> {
         let (kind, count) = self.check_all()?;
         // All fields are below 2^20 by now.
@@ -210,7 +210,7 @@ impl RawShip {
         })
     }
 
-    /// Refusals 3, 4 and 7 to 11; what numbers that pass say of the kind and the houses.
+    /// Refusals 3, 4, 7 to 11 and 18; what numbers that pass say of the kind and the houses.
     fn check_all(&self) -> Result<(Kind, usize), Refusal> {
         let (kind, count) = kind_and_count(self.kind, self.n)?;
         self.check_fields()?;
@@ -266,7 +266,7 @@ fn kind_and_count(kind: u64, n: u64) -> Result<(Kind, usize), Refusal> {
     Ok((kind, n as usize))
 }
 
-/// Refusals 9, 10 and 11, each over all the houses before the next.
+/// Refusals 9, 10, and then 11 or 18, each over all the houses before the next.
 pub fn check_houses(length: i64, houses: &[House]) -> Result<(), Refusal> {
     let sound = |h: &House| {
         h.fore > h.aft
@@ -280,6 +280,24 @@ pub fn check_houses(length: i64, houses: &[House]) -> Result<(), Refusal> {
         |h: &House| !h.quarterdeck || (h.enclosed && h.aft <= 0 && h.fore < length);
     Refusal::first_false(Refusal::HOUSE, houses.iter().map(sound).enumerate())?;
     Refusal::first_false(Refusal::QUARTERDECK, houses.iter().map(quarterdeck_sound).enumerate())?;
-    let apart = houses.windows(2).map(|pair| pair[1].aft >= pair[0].fore);
-    Refusal::first_false(Refusal::OVERLAP, (1..).zip(apart))
+    check_pairs(houses)
+}
+
+/// Refusals 11 and 18: the first house whose aft end is below the previous one's fore end decides
+/// which of them is given.
+fn check_pairs(houses: &[House]) -> Result<(), Refusal> {
+    let mut pairs = (1..).zip(houses.windows(2));
+    match pairs.find(|(_, pair)| pair[1].aft < pair[0].fore) {
+        None => Ok(()),
+        Some((place, pair)) => Err(overlap_or_order(place, &pair[0], &pair[1])),
+    }
+}
+
+fn overlap_or_order(place: usize, previous: &House, house: &House) -> Refusal {
+    if house.aft < previous.aft {
+        return Refusal::at(Refusal::OUT_OF_ORDER, place);
+    }
+    // Its own aft end is the later one of the two.
+    let overlap = previous.fore.min(house.fore) - house.aft;
+    Refusal::overlapping(place, overlap as u64)
 }

@@ -1,13 +1,16 @@
-//! The seventeen refusals. The order of their numbers is the order of the checks.
+//! The eighteen refusals. The order of their numbers is the order of the checks, but for 18: it
+//! stands where 11 does, and one check gives either.
 
 use std::fmt;
 
-/// Why there is no answer: a number from the table of refusals, and a place (0 unless the table
-/// names one).
+/// Why there is no answer: a number from the table of refusals, a place (0 unless the table names
+/// one), and for 11 the overlap.
 #[derive(Clone, Copy, Debug, PartialEq, Eq)]
 pub struct Refusal {
     pub number: u8,
     pub place: usize,
+    /// Whole mm that lie in both houses; 0 for every refusal but 11.
+    pub overlap: u64,
 }
 
 impl Refusal {
@@ -28,10 +31,16 @@ impl Refusal {
     pub const NO_ROOM: u8 = 15;
     pub const NOTHING_FITS: u8 = 16;
     pub const SHORT_BUFFER: u8 = 17;
+    pub const OUT_OF_ORDER: u8 = 18;
 
     /// A refusal at a named place: a field from 1, or a house from 0.
     pub fn at(number: u8, place: usize) -> Refusal {
-        Refusal { number, place }
+        Refusal { number, place, overlap: 0 }
+    }
+
+    /// Refusal 11: so many mm lie in this house and in the one before.
+    pub fn overlapping(place: usize, overlap: u64) -> Refusal {
+        Refusal { number: Refusal::OVERLAP, place, overlap }
     }
 
     /// `Ok` if `holds`, otherwise the refusal with place 0.
@@ -57,6 +66,10 @@ impl Refusal {
 
 impl fmt::Display for Refusal {
     fn fmt(&self, f: &mut fmt::Formatter) -> fmt::Result {
-        write!(f, "refused {} {}", self.number, self.place)
+        write!(f, "refused {} {}", self.number, self.place)?;
+        match self.number {
+            Refusal::OVERLAP => write!(f, " {}", self.overlap),
+            _ => Ok(()),
+        }
     }
 }

@@ -18,7 +18,8 @@ fn refusals_in_order() {
     let poop = with(k1(), &[house(0, 10_000, 2_000)]);
     let overlapping = with(k1(), &[house(0, 10_000, 2_000), house(9_999, 20_000, 2_000)]);
     assert_eq!(shortest_poop(&[], 0, 0), refused(1, 0));
-    assert_eq!(shortest_poop(&packed(&overlapping), 0, 0), refused(11, 1));
+    let overlap = Err(Refusal::overlapping(1, 1));
+    assert_eq!(shortest_poop(&packed(&overlapping), 0, 0), overlap);
     for (height, wish) in [(0, 1_000), (8_192, 1_000), (1_950, 49), (1_950, 60_001)] {
         assert_eq!(shortest_poop(&packed(&poop), height, wish), refused(14, 0));
     }
@@ -44,6 +45,17 @@ fn unfit_ships_only_make_a_length_unfit() {
     let shallow = RawShip { depth: 1_000, ..k2() };
     assert_eq!(marks(&ship(&shallow)), Err(Refusal::at(12, 0)));
     assert!(shortest_poop(&packed(&shallow), 1_950, 60_000).is_ok_and(|k| k > 0));
+}
+
+/// A poop that reaches beyond the first house's aft end overlaps it, which only makes that length unfit.
+#[test]
+fn poop_into_the_first_house() {
+    let raw = with(k1(), &[house(30_000, 31_000, 2_000), house(80_000, 90_000, 2_000)]);
+    let of = |k| summer_with_poop(&ship(&raw), 1_950, k);
+    assert!(of(300).is_ok());
+    let overlap = |mm| Err(Refusal::overlapping(1, mm));
+    assert_eq!([301, 309, 310, 900].map(of), [100, 900, 1_000, 1_000].map(overlap));
+    assert_eq!(shortest_poop(&packed(&raw), 1_950, 50), refused(16, 0));
 }
 
 /// The poop is the house amidships from 100k = 0.8 L on, at its own height.

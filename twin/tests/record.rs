@@ -12,6 +12,10 @@ fn refused(number: u8, place: usize) -> Option<Refusal> {
     Some(Refusal::at(number, place))
 }
 
+fn overlapping(place: usize, mm: u64) -> Option<Refusal> {
+    Some(Refusal::overlapping(place, mm))
+}
+
 /// k2's bytes, worked by hand from the table of fields.
 #[test]
 fn bytes_of_k2() {
@@ -68,7 +72,7 @@ fn damaged_records() {
         }
         match read(&bytes) {
             Ok(ship) => assert_eq!(packed(&ship.raw()), bytes),
-            Err(refusal) => assert!((2..=11).contains(&refusal.number)),
+            Err(refusal) => assert!(matches!(refusal.number, 2..=11 | 18)),
         }
     }
 }
@@ -110,10 +114,11 @@ fn house_refusals_in_order() {
     assert_eq!(check(&[sound, house(20_000, 20_000, 1)]), refused(9, 1));
     assert_eq!(check(&[open_deck, house(20_000, 20_000, 1)]), refused(9, 1));
     assert_eq!(check(&[open_deck, house(9_999, 20_000, 1)]), refused(10, 0));
-    assert_eq!(check(&[sound, house(9_999, 20_000, 1)]), refused(11, 1));
+    assert_eq!(check(&[sound, house(9_999, 20_000, 1)]), overlapping(1, 1));
     assert_eq!(check(&[sound, house(10_000, 20_000, 1)]), None);
     let open = House { enclosed: false, ..sound };
-    assert_eq!(check(&[open, house(9_999, 20_000, 1), house(0, 1, 1)]), refused(11, 1));
+    assert_eq!(check(&[open, house(9_999, 20_000, 1), house(0, 1, 1)]), overlapping(1, 1));
+    assert_eq!(check(&[house(9_999, 20_000, 1), open, house(0, 1, 1)]), refused(18, 1));
 }
 
 #[test]

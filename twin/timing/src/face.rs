@@ -7,6 +7,7 @@ use twin::record::{House, RawShip};
 pub struct MarksAnswer {
     pub refusal: u64,
     pub place: u64,
+    pub overlap: u64,
     pub s: i64,
     pub t: i64,
     pub w: i64,
@@ -20,6 +21,7 @@ pub struct MarksAnswer {
 pub struct PoopAnswer {
     pub refusal: u64,
     pub place: u64,
+    pub overlap: u64,
     pub decimetres: u64,
 }
 
@@ -54,6 +56,7 @@ pub struct FlatShip {
 pub struct ReadAnswer {
     pub refusal: u64,
     pub place: u64,
+    pub overlap: u64,
     pub ship: FlatShip,
 }
 
@@ -62,6 +65,7 @@ pub struct ReadAnswer {
 pub struct WriteAnswer {
     pub refusal: u64,
     pub place: u64,
+    pub overlap: u64,
     pub bytes: u64,
 }
 

@@ -10,26 +10,33 @@ pub const ROOM: usize = 128;
 /// Bytes before and after the room that a buffer is lent from.
 pub const GUARD: usize = 16;
 pub const MEMORY: usize = GUARD + ROOM + GUARD;
+/// Numbers that every answer begins with: refusal, place, overlap.
+pub const REFUSAL: usize = 3;
+/// Numbers of an answer to each call.
+pub const MARKS: usize = REFUSAL + 6;
+pub const READ: usize = REFUSAL + SHIP;
+pub const WRITE: usize = REFUSAL + 1;
+pub const POOP: usize = REFUSAL + 1;
 /// Bytes of an answer.
-pub const ANSWER: usize = 8 * (8 + 2 + SHIP + 3 + 3 + 3) + 2 * MEMORY + ROOM;
+pub const ANSWER: usize = 8 * (MARKS + READ + 2 * WRITE + POOP) + 2 * MEMORY + ROOM;
 
-/// What a write gives: refusal, place, bytes; and the memory that its buffer was lent from.
+/// What a write gives: refusal, place, overlap, bytes; and the memory that its buffer was lent from.
 #[derive(Clone, PartialEq, Eq)]
 pub struct Written {
-    pub numbers: [u64; 3],
+    pub numbers: [u64; WRITE],
     pub memory: [u8; MEMORY],
 }
 
 /// All that is answered to an input, with the numbers in the order of include/loadline.h.
 #[derive(Clone, PartialEq, Eq)]
 pub struct Answer {
-    pub marks: [u64; 8],
-    pub read: [u64; 2 + SHIP],
+    pub marks: [u64; MARKS],
+    pub read: [u64; READ],
     /// The ship that was read, written into all the room; zeros if there is none.
     pub back: Written,
     pub write: Written,
     /// Zeros if nothing was asked.
-    pub poop: [u64; 3],
+    pub poop: [u64; POOP],
     /// The record's room after the calls.
     pub record: [u8; ROOM],
 }
@@ -94,6 +101,6 @@ mod tests {
     fn sizes() {
         let input = Input::draw(&mut Random::new(1));
         assert_eq!(batch(&[input]).len(), 8 + 768);
-        assert_eq!(ANSWER, 1040);
+        assert_eq!(ANSWER, 1080);
     }
 }

@@ -10,6 +10,7 @@ use crate::border;
 use crate::fine;
 use crate::flat::{self, SHIP};
 use crate::frame::{MEMORY, ROOM};
+use crate::lists;
 use crate::sheer;
 
 /// How a record came about.
@@ -18,6 +19,7 @@ pub enum Kind {
     Valid,
     WholeMm,
     Border,
+    List,
     Damaged,
     Noise,
     Sheer,
@@ -29,6 +31,7 @@ impl fmt::Display for Kind {
             Kind::Valid => "valid",
             Kind::WholeMm => "at a whole mm",
             Kind::Border => "at a border",
+            Kind::List => "about overlap and order",
             Kind::Damaged => "damaged",
             Kind::Noise => "noise",
             Kind::Sheer => "about sheer",
@@ -55,11 +58,12 @@ impl Input {
         let n = random.between(0, MAX_HOUSES as i64) as usize;
         let raw = random.any_ship(n);
         let mut input = Input::blank(random, n);
-        match random.between(1, 20) {
+        match random.between(1, 25) {
             1..=6 => input.pack(&raw),
             7 | 8 => input.put_whole_mm(random, n),
             9..=13 => input.put_border(random, raw.clone()),
             14..=18 => input.put_damaged(random, &raw),
+            19..=23 => input.put_list(random, raw.clone()),
             _ => input.put_noise(random),
         }
         input.ship = stated(random, raw);
@@ -128,6 +132,12 @@ impl Input {
         }
     }
 
+    fn put_list(&mut self, random: &mut Random, mut raw: RawShip) {
+        self.kind = Kind::List;
+        lists::put(random, &mut raw);
+        self.pack(&raw);
+    }
+
     fn put_damaged(&mut self, random: &mut Random, raw: &RawShip) {
         self.kind = Kind::Damaged;
         self.pack(raw);
@@ -173,11 +183,13 @@ fn buffer_length(random: &mut Random, n: usize) -> usize {
     }
 }
 
-/// The numbers of the ship: as they are, at a border, or any.
+/// The numbers of the ship: as they are, at a border, with another list of houses, or any.
 fn stated(random: &mut Random, mut raw: RawShip) -> [u64; SHIP] {
-    let kind = random.between(1, 10);
-    if (5..=7).contains(&kind) {
-        border::put(random, &mut raw);
+    let kind = random.between(1, 12);
+    match kind {
+        5..=7 => border::put(random, &mut raw),
+        11 | 12 => lists::put(random, &mut raw),
+        _ => {}
     }
     let yes = random.pick(&[1, 1, 1, 2, 256, 1 << 32, 1 << 63, u64::MAX]);
     let mut numbers = flat::numbers(&raw, yes);

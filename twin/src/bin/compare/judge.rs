@@ -5,7 +5,7 @@ use twin::refusal::Refusal;
 use twin::{marks, question};
 
 use crate::flat;
-use crate::frame::{Answer, Written, GUARD};
+use crate::frame::{Answer, Written, GUARD, POOP, REFUSAL, WRITE};
 use crate::input::Input;
 
 /// The twin's answer.
@@ -20,7 +20,7 @@ pub fn worked(input: &Input) -> Answer {
         read: numbers(ship.map(|ship| flat::numbers(&ship.raw(), 1))),
         back: written_back(input, ship),
         write: written(input),
-        poop: input.question.map_or([0; 3], |(height, wish)| {
+        poop: input.question.map_or([0; POOP], |(height, wish)| {
             let poop = question::shortest_poop(input.record(), height, wish);
             numbers(poop.map(|decimetres| [decimetres as u64]))
         }),
@@ -28,13 +28,13 @@ pub fn worked(input: &Input) -> Answer {
     }
 }
 
-/// Refusal and place, then what is given: zeros beside a refusal.
+/// Refusal, place and overlap, then what is given: zeros beside a refusal.
 fn numbers<const N: usize, const GIVEN: usize>(result: Result<[u64; GIVEN], Refusal>) -> [u64; N] {
     let mut numbers = [0; N];
     match result {
-        Ok(given) => numbers[2..].copy_from_slice(&given),
-        Err(Refusal { number, place }) => {
-            numbers[..2].copy_from_slice(&[number.into(), place as u64]);
+        Ok(given) => numbers[REFUSAL..].copy_from_slice(&given),
+        Err(Refusal { number, place, overlap }) => {
+            numbers[..REFUSAL].copy_from_slice(&[number.into(), place as u64, overlap]);
         }
     }
     numbers
@@ -42,9 +42,9 @@ fn numbers<const N: usize, const GIVEN: usize>(result: Result<[u64; GIVEN], Refu
 
 /// A ship that was read gives its record back.
 fn written_back(input: &Input, ship: Result<&Ship, Refusal>) -> Written {
-    let mut back = Written { numbers: [0; 3], memory: input.memory };
+    let mut back = Written { numbers: [0; WRITE], memory: input.memory };
     if ship.is_ok() {
-        back.numbers[2] = input.record_length as u64;
+        back.numbers[REFUSAL] = input.record_length as u64;
         back.memory[GUARD..][..input.record_length].copy_from_slice(input.record());
     }
     back

@@ -10,6 +10,7 @@ mod flat;
 mod frame;
 mod input;
 mod judge;
+mod lists;
 mod sheer;
 mod tally;
 

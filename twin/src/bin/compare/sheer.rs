@@ -431,7 +431,7 @@ mod tests {
         for _ in 0..20_000 {
             let input = Input::draw_sheer(&mut random);
             let ship = record::read(input.record()).expect("a valid ship");
-            let [_, _, poop] = judge::worked(&input).poop;
+            let [.., poop] = judge::worked(&input).poop;
             assert!(poop <= 210, "{poop}");
             let amidships = 200 * poop as i64 >= ship.length;
             count(&mut seen, [input.question.is_some(), poop > 0, amidships]);

@@ -1,29 +1,35 @@
-//! What was compared, how often a reduction for depth was in it, and how often each refusal was seen;
-//! for inputs around the borders of sheer, where the marks lie.
+//! What was compared, how often a reduction for depth was in it, and how often each refusal was seen,
+//! 11 and 18 in each call; for inputs around the borders of sheer, where the marks lie.
 
 use std::fmt;
 
 use twin::marks::{self, Steps};
 use twin::record::{self, Ship};
 
-use crate::frame::Answer;
+use crate::frame::{Answer, REFUSAL};
 use crate::input::{Input, Kind};
 use crate::sheer;
 
-const CALLS: [&str; 5] = ["marks", "reads", "writes back", "writes", "questions"];
-const REFUSALS: usize = 17;
+/// Of records that are not around the borders of sheer.
+const KINDS: [Kind; 6] =
+    [Kind::Valid, Kind::WholeMm, Kind::Border, Kind::List, Kind::Damaged, Kind::Noise];
+const WRITES_BACK: &str = "writes back";
+const CALLS: [&str; 5] = ["marks", "reads", WRITES_BACK, "writes", "questions"];
+const REFUSALS: usize = 18;
 
 #[derive(Default)]
 pub struct Tally {
     pub inputs: u64,
     /// In the order of `Kind`.
-    kinds: [u64; 6],
+    kinds: [u64; 7],
     /// Calls made and accepted, in the order of `CALLS`.
     calls: [(u64, u64); CALLS.len()],
     /// Marks with a reduction for depth, and poops that earn one.
     reductions: (u64, u64),
-    /// By number, from 1.
-    refusals: [u64; REFUSALS],
+    /// By number, from 1; for each of `CALLS`.
+    refusals: [[u64; REFUSALS]; CALLS.len()],
+    /// Overlaps of 1 mm, and the greatest.
+    overlaps: (u64, u64),
     /// For inputs around the borders of sheer.
     sheer: Option<Sheer>,
 }
@@ -83,19 +89,22 @@ impl Tally {
         self.inputs += 1;
         self.kinds[input.kind as usize] += 1;
         let was_read = answer.read[0] == 0;
-        for (count, made, refusal) in [
-            (0, true, answer.marks[0]),
-            (1, true, answer.read[0]),
-            (2, was_read, answer.back.numbers[0]),
-            (3, true, answer.write.numbers[0]),
-            (4, input.question.is_some(), answer.poop[0]),
+        for (call, made, numbers) in [
+            (0, true, &answer.marks[..]),
+            (1, true, &answer.read),
+            (2, was_read, &answer.back.numbers),
+            (3, true, &answer.write.numbers),
+            (4, input.question.is_some(), &answer.poop),
         ] {
-            let (calls, accepted) = &mut self.calls[count];
+            let (refusal, overlap) = (numbers[0] as usize, numbers[2]);
+            let (calls, accepted) = &mut self.calls[call];
             *calls += u64::from(made);
             *accepted += u64::from(made && refusal == 0);
             if refusal > 0 {
-                self.refusals[refusal as usize - 1] += 1;
+                self.refusals[call][refusal - 1] += 1;
             }
+            self.overlaps.0 += u64::from(overlap == 1);
+            self.overlaps.1 = self.overlaps.1.max(overlap);
         }
         self.add_steps(input, answer);
     }
@@ -110,14 +119,33 @@ impl Tally {
             }
         }
         // No answer is 0 dm.
-        let poop = 100 * answer.poop[2] as i64;
+        let poop = 100 * answer.poop[REFUSAL] as i64;
         let earned = 15 * ship.depth < ship.length && 5 * poop >= 4 * ship.length;
         self.reductions.1 += u64::from(earned);
     }
 
+    /// How often a refusal was seen in all calls.
+    fn seen(&self, refusal: usize) -> u64 {
+        self.refusals.iter().map(|call| call[refusal - 1]).sum()
+    }
+
     /// The lowest refusal that was never seen.
     pub fn unseen(&self) -> Option<usize> {
-        self.refusals.iter().position(|&seen| seen == 0).map(|place| place + 1)
+        (1..=REFUSALS).find(|&refusal| self.seen(refusal) == 0)
+    }
+
+    /// Refusals 11 and 18 in each call but writing back: a ship that was read is never refused.
+    fn bad_lists(&self) -> String {
+        let calls = CALLS.iter().zip(&self.refusals).filter(|(call, _)| **call != WRITES_BACK);
+        let [overlap, order] = [11, 18].map(|refusal| refusal - 1);
+        let counts =
+            calls.map(|(call, seen)| format!("{call} {} and {}", seen[overlap], seen[order]));
+        format!(
+            "11 and 18 in {}; overlaps of 1 mm {}, the greatest {} mm",
+            counts.collect::<Vec<_>>().join(", "),
+            self.overlaps.0,
+            self.overlaps.1
+        )
     }
 }
 
@@ -125,7 +153,7 @@ impl fmt::Display for Tally {
     fn fmt(&self, f: &mut fmt::Formatter) -> fmt::Result {
         let kinds = match self.sheer {
             Some(_) => &[Kind::Sheer][..],
-            None => &[Kind::Valid, Kind::WholeMm, Kind::Border, Kind::Damaged, Kind::Noise],
+            None => &KINDS,
         };
         let kinds: Vec<_> =
             kinds.iter().map(|&kind| format!("{} {kind}", self.kinds[kind as usize])).collect();
@@ -134,17 +162,18 @@ impl fmt::Display for Tally {
             .map(|(call, (made, accepted))| format!("{made} {call} ({accepted} accepted)"))
             .collect();
         let refusals: Vec<_> =
-            (1..).zip(self.refusals).map(|(number, seen)| format!("{number}: {seen}")).collect();
+            (1..=REFUSALS).map(|number| format!("{number}: {}", self.seen(number))).collect();
         write!(
             f,
             "{} inputs, no difference: {}; {}; \
-             {} marks with a reduction for depth, {} poops that earn one; refusals {}",
+             {} marks with a reduction for depth, {} poops that earn one; refusals {}; {}",
             self.inputs,
             kinds.join(", "),
             calls.join(", "),
             self.reductions.0,
             self.reductions.1,
-            refusals.join(", ")
+            refusals.join(", "),
+            self.bad_lists()
         )?;
         match &self.sheer {
             Some(sheer) => write!(f, "; {sheer}"),
@@ -169,6 +198,22 @@ mod tests {
         }
         let (marks, poops) = tally.reductions;
         assert!(marks >= 250 && poops >= 10, "{tally}");
+    }
+
+    /// All refusals are seen, and both of a list of houses in every call.
+    #[test]
+    fn refusals_are_drawn() {
+        let mut random = Random::new(18);
+        let mut tally = Tally::default();
+        for _ in 0..20_000 {
+            let input = Input::draw(&mut random);
+            tally.add(&input, &judge::worked(&input));
+        }
+        assert_eq!(tally.unseen(), None, "{tally}");
+        for (call, seen) in CALLS.iter().zip(&tally.refusals) {
+            let least = if *call == WRITES_BACK { 0 } else { 100 };
+            assert!(seen[10] >= least && seen[17] >= least, "{tally}");
+        }
     }
 
     /// Every mark is counted once, and each place has some.

@@ -2,9 +2,11 @@
 //! marks to work and questions to answer.
 //!
 //! Each makes DIR/data/NAME for every case, DIR/args with the names in order, and DIR/stdout with
-//! one line for each. `samples slips` shows which cases of the marks a slip in a step would change.
+//! one line for each. `samples slips` shows which cases of the marks a slip in a step would change,
+//! and how many cases of each call a slip in the check of the houses would.
 
 mod bytes;
+mod lists;
 mod marks;
 mod questions;
 mod records;
@@ -17,8 +19,20 @@ use std::io;
 use std::path::Path;
 use std::process::ExitCode;
 
-/// A refusal's number and place.
-pub type Expected = Option<(u8, usize)>;
+use twin::refusal::Refusal;
+
+/// What a case is there for: a refusal, or none.
+pub type Expected = Option<Refusal>;
+
+/// Any refusal but 11.
+pub fn refused(number: u8, place: usize) -> Expected {
+    Some(Refusal::at(number, place))
+}
+
+/// Refusal 11 and the overlap in mm.
+pub fn overlap(place: usize, mm: u64) -> Expected {
+    Some(Refusal::overlapping(place, mm))
+}
 
 /// One case: its input, and the line that answers it.
 pub struct Sample {
@@ -31,10 +45,15 @@ impl Sample {
     /// Stops if the line is not the refusal (or the acceptance) that the case is there for.
     pub fn new(name: &str, data: Vec<u8>, line: String, expected: Expected) -> Sample {
         match expected {
-            Some((number, place)) => {
-                let refused = format!("refused {number} {place}");
-                let said = line.split(' ').take(3).collect::<Vec<_>>().join(" ");
-                assert_eq!(said, refused, "{name}: {line}");
+            Some(Refusal { number, place, overlap }) => {
+                let said = match number {
+                    11 => format!("refused 11 {place} {overlap}"),
+                    _ => format!("refused {number} {place}"),
+                };
+                // Nothing follows but a buffer, which is as it was.
+                let rest = line.strip_prefix(&said).map(|rest| rest.replace("a5", ""));
+                let right = rest.is_some_and(|rest| rest.trim_start().is_empty());
+                assert!(right, "{name}: {line}, not {said}");
             }
             None => assert!(!line.starts_with("refused"), "{name}: {line}"),
         }
@@ -58,16 +77,28 @@ fn save(directory: &Path, samples: &[Sample]) -> io::Result<()> {
     fs::write(directory.join("stdout"), lines)
 }
 
+/// Which cases tell each slip.
+fn slips() -> String {
+    let marks = marks::cases();
+    let lists = lists::slips::shown(&[
+        ("records", &records::cases().lists),
+        ("writes", &writes::cases().lists),
+        ("marks", &marks.lists),
+        ("questions", &questions::cases().lists),
+    ]);
+    format!("{}\n{lists}", marks.slips())
+}
+
 fn main() -> ExitCode {
     let arguments: Vec<String> = std::env::args().skip(1).collect();
     let words: Vec<&str> = arguments.iter().map(String::as_str).collect();
     let (samples, directory) = match words[..] {
-        ["records", directory] => (records::samples(), directory),
-        ["writes", directory] => (writes::samples(), directory),
+        ["records", directory] => (records::cases().samples, directory),
+        ["writes", directory] => (writes::cases().samples, directory),
         ["marks", directory] => (marks::cases().samples, directory),
-        ["questions", directory] => (questions::samples(), directory),
+        ["questions", directory] => (questions::cases().samples, directory),
         ["slips"] => {
-            println!("{}", marks::cases().slips());
+            println!("{}", slips());
             return ExitCode::SUCCESS;
         }
         _ => {
@@ -92,9 +123,9 @@ mod tests {
     /// Every generator stops at a case that is not what it says.
     #[test]
     fn cases_are_what_they_say() {
-        assert!(!super::records::samples().is_empty());
-        assert!(!super::writes::samples().is_empty());
+        assert!(!super::records::cases().samples.is_empty());
+        assert!(!super::writes::cases().samples.is_empty());
         assert!(!super::marks::cases().samples.is_empty());
-        assert!(!super::questions::samples().is_empty());
+        assert!(!super::questions::cases().samples.is_empty());
     }
 }

@@ -1,9 +1,10 @@
 //! Questions for the shortest poop: height and wish, then the record. The line is the poop's length
-//! in dm, or one of refusals 1 to 11 and 14 to 16.
+//! in dm, or one of refusals 1 to 11, 18, and 14 to 16.
 
 use crate::bytes::{over, packed, resized, COUNT, KIND, SPARE, VERSION};
+use crate::lists::{self, slips::Lists};
 use crate::ships::{decked, extremes, house, k1, k2, open, plain, quarterdeck, with, KINDS};
-use crate::{slips, Sample};
+use crate::{refused, slips, Sample};
 use twin::marks;
 use twin::question::{shortest_poop, summer_with_poop};
 use twin::record::{self, House, RawShip, Ship, MAX_HOUSES};
@@ -16,15 +17,20 @@ enum Expected {
     Poop(i64),
     /// Some length above 0.
     Longer,
+    /// Any refusal but 11.
     Refused(u8, usize),
+    /// A refusal with its overlap.
+    Exactly(Refusal),
 }
 
-use Expected::{Longer, Poop, Refused};
+use Expected::{Exactly, Longer, Poop, Refused};
 
-struct Questions {
-    samples: Vec<Sample>,
+#[derive(Default)]
+pub struct Questions {
+    pub samples: Vec<Sample>,
     /// Ship, height, wish and answer of each case that gets as far as the search.
     searched: Vec<(Ship, u64, u64, Result<i64, Refusal>)>,
+    pub lists: Lists,
 }
 
 impl Questions {
@@ -43,7 +49,8 @@ impl Questions {
                 assert!(answer.is_ok_and(|k| k > 0), "{name}: {line}");
                 None
             }
-            Refused(number, place) => Some((number, place)),
+            Refused(number, place) => refused(number, place),
+            Exactly(refusal) => Some(refusal),
         };
         if let (Ok(ship), false) =
             (record::read(&record), matches!(answer, Err(r) if r.number < 15))
@@ -57,12 +64,24 @@ impl Questions {
     }
 
     fn ship(&mut self, name: &str, expected: Expected, height: u64, wish: u64, raw: &RawShip) {
+        self.lists.add(raw, after_houses(raw, height, wish));
         self.bytes(name, expected, height, wish, packed(raw));
     }
 }
 
-pub fn samples() -> Vec<Sample> {
-    let mut all = Questions { samples: Vec::new(), searched: Vec::new() };
+/// Refusal 14 or 15, were the list of houses sound.
+fn after_houses(raw: &RawShip, height: u64, wish: u64) -> Option<Refusal> {
+    let asked_well = (1..=8_191).contains(&height) && (50..=60_000).contains(&wish);
+    let no_room = raw.n == 8 || raw.n > 0 && raw.houses[0].aft <= 0;
+    match (asked_well, no_room) {
+        (false, _) => refused(14, 0),
+        (true, true) => refused(15, 0),
+        (true, false) => None,
+    }
+}
+
+pub fn cases() -> Questions {
+    let mut all = Questions::default();
     figures(&mut all);
     whole_length(&mut all);
     first_house(&mut all);
@@ -74,13 +93,15 @@ pub fn samples() -> Vec<Sample> {
     unfit_at_zero(&mut all);
     nothing_fits(&mut all);
     order(&mut all);
+    lists(&mut all);
     for slip in SLIPS {
         let told = all.searched.iter().filter(|(ship, height, wish, answer)| {
             search_with(slip, ship, *height, *wish) != *answer
         });
         assert!(told.count() >= 2, "too few cases tell {slip:?}");
     }
-    all.samples
+    all.lists.enough("questions");
+    all
 }
 
 /// The mark with a poop of k dm, nothing if it is unfit.
@@ -326,16 +347,43 @@ fn order(all: &mut Questions) {
         (8, 0, packed(&RawShip { immersion: 1, ..k2() })),
         (9, 1, packed(&with(k1(), &[poop, bad]))),
         (10, 0, packed(&with(k1(), &[deck]))),
-        (11, 1, packed(&with(k1(), &[poop, overlapping]))),
     ] {
         let expected = Refused(number, place);
         all.bytes(&format!("{number}-before-14"), expected, 0, u64::MAX, bytes);
     }
-    let overlap = with(k1(), &[poop, overlapping]);
-    all.ship("11-before-15", Refused(11, 1), 1_950, 60_000, &overlap);
+    let both = with(k1(), &[poop, overlapping]);
+    all.ship("11-before-14", Exactly(Refusal::overlapping(1, 1)), 0, u64::MAX, &both);
+    all.ship("11-before-15", Exactly(Refusal::overlapping(1, 1)), 1_950, 60_000, &both);
     all.ship("14-before-15-height", Refused(14, 0), 0, 1_000, &with(k1(), &[poop]));
     all.ship("14-before-15-wish", Refused(14, 0), 1_950, 49, &extremes());
     all.ship("15-before-16", Refused(15, 0), 1_950, 50, &with(k1(), &[poop]));
+}
+
+/// Lists about refusals 11 and 18, and what comes after either.
+fn lists(all: &mut Questions) {
+    for case in lists::cases() {
+        let room = case.houses[0].aft > 0 && case.houses.len() < MAX_HOUSES;
+        let otherwise = if room { Poop(0) } else { Refused(15, 0) };
+        let expected = case.expected.map_or(otherwise, Exactly);
+        all.ship(&case.name, expected, 1_950, 60_000, &with(k1(), &case.houses));
+    }
+    for (number, expected, houses) in lists::either() {
+        let expected = expected.map_or(Poop(0), Exactly);
+        for (name, height, wish) in [
+            ("14-height", 0, 1_000),
+            ("14-wish", 1_950, 49),
+            ("16", 1_950, 50),
+            ("an-answer", 1_950, 60_000),
+        ] {
+            let raw = with(k1(), &houses);
+            all.ship(&format!("{number}-before-{name}"), expected, height, wish, &raw);
+        }
+    }
+    let stern = [house(0, 9_000, 2_000), house(20_000, 30_000, 2_000), house(9_500, 18_000, 2_000)];
+    all.ship("18-before-15", Refused(18, 2), 1_950, 60_000, &with(k1(), &stern));
+    let eight: Vec<House> =
+        (1..=8).rev().map(|i| house(10_000 * i, 10_000 * i + 9_000, 1)).collect();
+    all.ship("18-before-15-eight-houses", Refused(18, 1), 1_950, 60_000, &with(k1(), &eight));
 }
 
 /// Plausible slips in the search.

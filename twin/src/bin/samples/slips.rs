@@ -12,10 +12,11 @@ macro_rules! slips {
         #[derive(Clone, Copy, Debug, PartialEq, Eq)]
         pub enum Slip { $($name),* }
 
-        /// Every slip, the regulation it is in, and what it does.
+        /// Every slip, the regulation or refusal it is in, and what it does.
         pub const SLIPS: &[(Slip, u8, &str)] = &[$((Slip::$name, $regulation, $text)),*];
     };
 }
+pub(crate) use slips;
 
 slips! {
     HeightRounded 33 "standard height in whole mm",

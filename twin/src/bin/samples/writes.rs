@@ -1,12 +1,17 @@
 //! Ships to write: the line is `written` or the refusal, and the buffer afterwards.
 
+use crate::lists::{self, slips::Lists};
 use crate::ships::{extremes, house, k1, k2, three_houses, with};
-use crate::{Expected, Sample};
+use crate::{overlap, refused, Expected, Sample};
 use twin::random::Random;
-use twin::record::{House, RawShip};
+use twin::record::{self, House, RawShip};
 use twin::report::Trial;
 
-struct Writes(Vec<Sample>);
+#[derive(Default)]
+pub struct Writes {
+    pub samples: Vec<Sample>,
+    pub lists: Lists,
+}
 
 impl Writes {
     fn into(&mut self, buffer: u64, name: &str, expected: Expected, ship: &RawShip) {
@@ -15,7 +20,9 @@ impl Writes {
         let again = Trial::from_bytes(&data).map(|read| read.line());
         let line = trial.line();
         assert_eq!(again, Some(line.clone()), "{name} does not come back");
-        self.0.push(Sample::new(name, data, line, expected));
+        let short = (buffer as usize) < record::record_bytes(ship.n.min(8) as usize);
+        self.lists.add(ship, refused(17, 0).filter(|_| short));
+        self.samples.push(Sample::new(name, data, line, expected));
     }
 
     /// Into a buffer that is longer than any record of one house.
@@ -28,8 +35,8 @@ impl Writes {
     }
 }
 
-pub fn samples() -> Vec<Sample> {
-    let mut all = Writes(Vec::new());
+pub fn cases() -> Writes {
+    let mut all = Writes::default();
     written(&mut all);
     short_buffers(&mut all);
     kind_and_count(&mut all);
@@ -37,7 +44,9 @@ pub fn samples() -> Vec<Sample> {
     houses(&mut all);
     beyond_count(&mut all);
     priorities(&mut all);
-    all.0
+    lists(&mut all);
+    all.lists.enough("writes");
+    all
 }
 
 fn written(all: &mut Writes) {
@@ -56,7 +65,7 @@ fn written(all: &mut Writes) {
 }
 
 fn short_buffers(all: &mut Writes) {
-    let short = Some((17, 0));
+    let short = refused(17, 0);
     all.into(0, "k1-no-buffer", short, &k1());
     all.into(26, "k1-one-byte-short", short, &k1());
     all.into(27, "k2-header-only", short, &k2());
@@ -65,12 +74,12 @@ fn short_buffers(all: &mut Writes) {
 }
 
 fn kind_and_count(all: &mut Writes) {
-    all.ship("type-2", Some((3, 0)), &RawShip { kind: 2, ..k1() });
-    all.ship("type-4", Some((3, 0)), &RawShip { kind: 4, ..k1() });
-    all.ship("type-greatest", Some((3, 0)), &RawShip { kind: u64::MAX, ..k1() });
-    all.into(128, "nine-houses", Some((4, 0)), &RawShip { n: 9, ..extremes() });
-    all.ship("sixteen-houses", Some((4, 0)), &RawShip { n: 16, ..k1() });
-    all.into(0, "most-houses-no-buffer", Some((4, 0)), &RawShip { n: u64::MAX, ..k1() });
+    all.ship("type-2", refused(3, 0), &RawShip { kind: 2, ..k1() });
+    all.ship("type-4", refused(3, 0), &RawShip { kind: 4, ..k1() });
+    all.ship("type-greatest", refused(3, 0), &RawShip { kind: u64::MAX, ..k1() });
+    all.into(128, "nine-houses", refused(4, 0), &RawShip { n: 9, ..extremes() });
+    all.ship("sixteen-houses", refused(4, 0), &RawShip { n: 16, ..k1() });
+    all.into(0, "most-houses-no-buffer", refused(4, 0), &RawShip { n: u64::MAX, ..k1() });
 }
 
 fn fields(all: &mut Writes) {
@@ -82,42 +91,42 @@ fn fields(all: &mut Writes) {
         ("low-bits-good", (1 << 20) + 90_000),
         ("greatest", u64::MAX),
     ] {
-        all.ship(&format!("length-{name}"), Some((7, 1)), &RawShip { length, ..k1() });
+        all.ship(&format!("length-{name}"), refused(7, 1), &RawShip { length, ..k1() });
     }
     for (name, depth) in [("below", 999), ("above", 60_001), ("low-bits-good", (1 << 16) + 6_000)] {
-        all.ship(&format!("depth-{name}"), Some((7, 2)), &RawShip { depth, ..k1() });
+        all.ship(&format!("depth-{name}"), refused(7, 2), &RawShip { depth, ..k1() });
     }
     for (name, moulded) in [("below", 999), ("above", 60_001), ("2-to-63", 1 << 63)] {
-        all.ship(&format!("moulded-depth-{name}"), Some((7, 3)), &RawShip { moulded, ..k1() });
+        all.ship(&format!("moulded-depth-{name}"), refused(7, 3), &RawShip { moulded, ..k1() });
     }
     for (name, cb) in [("below", 0), ("above", 12_001), ("low-bits-good", (1 << 14) + 6_800)] {
-        all.ship(&format!("cb-{name}"), Some((7, 4)), &RawShip { cb, ..k1() });
+        all.ship(&format!("cb-{name}"), refused(7, 4), &RawShip { cb, ..k1() });
     }
     for (name, cwf) in [("below", 0), ("above", 10_001), ("greatest", u64::MAX)] {
-        all.ship(&format!("cwf-{name}"), Some((7, 5)), &RawShip { cwf, ..k1() });
+        all.ship(&format!("cwf-{name}"), refused(7, 5), &RawShip { cwf, ..k1() });
     }
     for i in 0..6 {
         for (name, ordinate) in [("below", -8_193), ("above", 8_192)] {
             let mut raw = k1();
             raw.sheer[i] = ordinate;
-            all.ship(&format!("sheer-{}-{name}", i + 1), Some((7, 6 + i)), &raw);
+            all.ship(&format!("sheer-{}-{name}", i + 1), refused(7, 6 + i), &raw);
         }
     }
     let sheer = |ordinate| RawShip { sheer: [0, 0, 0, 0, 0, ordinate], ..k1() };
-    all.ship("sheer-6-least", Some((7, 11)), &sheer(i64::MIN));
-    all.ship("sheer-6-greatest", Some((7, 11)), &sheer(i64::MAX));
+    all.ship("sheer-6-least", refused(7, 11), &sheer(i64::MIN));
+    all.ship("sheer-6-greatest", refused(7, 11), &sheer(i64::MAX));
     let certified = |displacement, immersion| RawShip { displacement, immersion, ..k1() };
-    all.ship("displacement-2-to-20", Some((7, 12)), &certified(1 << 20, 1));
-    all.ship("displacement-greatest", Some((7, 12)), &certified(u64::MAX, 1));
-    all.ship("immersion-2-to-16", Some((7, 13)), &certified(1, 1 << 16));
-    all.ship("immersion-2-to-63", Some((7, 13)), &certified(1, 1 << 63));
-    all.ship("displacement-alone", Some((8, 0)), &certified((1 << 20) - 1, 0));
-    all.ship("immersion-alone", Some((8, 0)), &certified(0, (1 << 16) - 1));
+    all.ship("displacement-2-to-20", refused(7, 12), &certified(1 << 20, 1));
+    all.ship("displacement-greatest", refused(7, 12), &certified(u64::MAX, 1));
+    all.ship("immersion-2-to-16", refused(7, 13), &certified(1, 1 << 16));
+    all.ship("immersion-2-to-63", refused(7, 13), &certified(1, 1 << 63));
+    all.ship("displacement-alone", refused(8, 0), &certified((1 << 20) - 1, 0));
+    all.ship("immersion-alone", refused(8, 0), &certified(0, (1 << 16) - 1));
 }
 
 fn houses(all: &mut Writes) {
     let poop = house(0, 10_000, 2_000);
-    let first = Some((9, 0));
+    let first = refused(9, 0);
     all.houses("fore-end-at-aft-end", first, &[house(40_000, 40_000, 2_000)]);
     all.houses("fore-end-0", first, &[house(-500, 0, 2_000)]);
     all.houses("aft-end-at-length", first, &[house(90_000, 90_500, 2_000)]);
@@ -127,17 +136,17 @@ fn houses(all: &mut Writes) {
     all.houses("fore-end-low-bits-good", first, &[house(80_000, (1 << 21) + 90_000, 2_000)]);
     all.houses("fore-end-greatest", first, &[house(80_000, i64::MAX, 2_000)]);
     all.houses("height-0", first, &[house(80_000, 90_000, 0)]);
-    all.houses("height-8192", Some((9, 1)), &[poop, house(80_000, 90_000, 8_192)]);
+    all.houses("height-8192", refused(9, 1), &[poop, house(80_000, 90_000, 8_192)]);
     all.houses("height-greatest", first, &[house(80_000, 90_000, u64::MAX)]);
     let deck = House { quarterdeck: true, ..house(0, 20_000, 1_200) };
     let open_deck = House { enclosed: false, ..deck };
-    all.houses("quarterdeck-not-enclosed", Some((10, 0)), &[open_deck]);
-    all.houses("quarterdeck-aft-end-1", Some((10, 0)), &[House { aft: 1, ..deck }]);
-    all.houses("quarterdeck-fore-end-at-length", Some((10, 0)), &[House { fore: 90_000, ..deck }]);
+    all.houses("quarterdeck-not-enclosed", refused(10, 0), &[open_deck]);
+    all.houses("quarterdeck-aft-end-1", refused(10, 0), &[House { aft: 1, ..deck }]);
+    all.houses("quarterdeck-fore-end-at-length", refused(10, 0), &[House { fore: 90_000, ..deck }]);
     all.houses("touching", None, &[poop, house(10_000, 20_000, 2_000)]);
-    all.houses("overlapping-by-1", Some((11, 1)), &[poop, house(9_999, 20_000, 2_000)]);
+    all.houses("overlapping-by-1", overlap(1, 1), &[poop, house(9_999, 20_000, 2_000)]);
     let late = [poop, house(10_000, 20_000, 1), house(19_999, 30_000, 1)];
-    all.houses("overlapping-at-house-2", Some((11, 2)), &late);
+    all.houses("overlapping-at-house-2", overlap(2, 1), &late);
 }
 
 /// What stands beyond n is ignored, whatever it is.
@@ -162,15 +171,38 @@ fn priorities(all: &mut Writes) {
     let open_deck = House { quarterdeck: true, enclosed: false, ..poop };
     let bad = house(30_000, 30_000, 2_000);
     let overlapping = house(9_999, 20_000, 2_000);
-    all.ship("3-before-4", Some((3, 0)), &RawShip { kind: 3, n: 9, ..k1() });
-    all.ship("4-before-7", Some((4, 0)), &RawShip { n: 9, length: 0, ..k1() });
+    all.ship("3-before-4", refused(3, 0), &RawShip { kind: 3, n: 9, ..k1() });
+    all.ship("4-before-7", refused(4, 0), &RawShip { n: 9, length: 0, ..k1() });
     let both = RawShip { sheer: [0, 9_000, 0, 0, 0, 0], immersion: 1 << 16, ..k1() };
-    all.ship("7-lowest-field", Some((7, 7)), &both);
+    all.ship("7-lowest-field", refused(7, 7), &both);
     let both = RawShip { displacement: 0, immersion: 1 << 16, ..k1() };
-    all.ship("7-before-8", Some((7, 13)), &both);
-    all.ship("8-before-9", Some((8, 0)), &RawShip { immersion: 7, ..with(k1(), &[bad]) });
-    all.houses("9-at-house-1-before-10-at-house-0", Some((9, 1)), &[open_deck, bad]);
-    all.houses("10-before-11", Some((10, 0)), &[open_deck, overlapping]);
+    all.ship("7-before-8", refused(7, 13), &both);
+    all.ship("8-before-9", refused(8, 0), &RawShip { immersion: 7, ..with(k1(), &[bad]) });
+    all.houses("9-at-house-1-before-10-at-house-0", refused(9, 1), &[open_deck, bad]);
+    all.houses("10-before-11", refused(10, 0), &[open_deck, overlapping]);
     let both = with(k1(), &[poop, overlapping]);
-    all.into(42, "11-before-17", Some((11, 1)), &both);
+    all.into(42, "11-before-17", overlap(1, 1), &both);
+}
+
+/// Lists about refusals 11 and 18, and what comes before and after either.
+fn lists(all: &mut Writes) {
+    for case in lists::cases() {
+        all.into(96, &case.name, case.expected, &with(k1(), &case.houses));
+    }
+    for (number, expected, houses) in lists::either() {
+        let raw = with(k1(), &houses);
+        let bad = RawShip { cwf: 0, ..raw.clone() };
+        all.into(64, &format!("7-before-{number}"), refused(7, 5), &bad);
+        let bad = RawShip { displacement: 7, ..raw.clone() };
+        all.into(64, &format!("8-before-{number}"), refused(8, 0), &bad);
+        for buffer in [0, 27, 42] {
+            let name = format!("{number}-before-17-in-{buffer}-bytes");
+            all.into(buffer, &name, expected, &raw);
+        }
+        // What stands beyond n is not compared.
+        for n in [0, 1] {
+            let name = format!("{number}-beyond-{n}");
+            all.into(64, &name, None, &RawShip { n, ..raw.clone() });
+        }
+    }
 }

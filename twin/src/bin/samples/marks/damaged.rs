@@ -1,7 +1,9 @@
-//! Refusals 1 to 11, and the order between them.
+//! Refusals 1 to 11 and 18, and the order between them.
 
 use super::Cases;
 use crate::bytes::{over, packed, resized, COUNT, HOUSE_SPARE, KIND, SPARE, VERSION};
+use crate::lists;
+use crate::refused;
 use crate::ships::{extremes, house, k1, k2, open, quarterdeck, three_houses, with};
 use twin::record::{self, House, RawShip};
 
@@ -13,15 +15,15 @@ pub fn damaged(all: &mut Cases) {
 }
 
 fn header(all: &mut Cases) {
-    all.bytes("bytes-0", Some((1, 0)), Vec::new());
-    all.bytes("version-2", Some((2, 0)), over(packed(&k2()), VERSION, 4, 2));
-    all.bytes("type-2", Some((3, 0)), over(packed(&k2()), KIND, 2, 2));
+    all.bytes("bytes-0", refused(1, 0), Vec::new());
+    all.bytes("version-2", refused(2, 0), over(packed(&k2()), VERSION, 4, 2));
+    all.bytes("type-2", refused(3, 0), over(packed(&k2()), KIND, 2, 2));
     let nine = over(resized(packed(&extremes()), 99), COUNT, 4, 9);
-    all.bytes("nine-houses", Some((4, 0)), nine);
-    all.bytes("bytes-28-no-house", Some((5, 0)), resized(packed(&k1()), 28));
-    all.bytes("header-spare-bit", Some((6, 0)), over(packed(&k1()), SPARE + 5, 1, 1));
+    all.bytes("nine-houses", refused(4, 0), nine);
+    all.bytes("bytes-28-no-house", refused(5, 0), resized(packed(&k1()), 28));
+    all.bytes("header-spare-bit", refused(6, 0), over(packed(&k1()), SPARE + 5, 1, 1));
     let last = 8 * record::record_bytes(2) + HOUSE_SPARE;
-    all.bytes("last-house-spare-bit", Some((6, 0)), over(packed(&three_houses()), last, 1, 1));
+    all.bytes("last-house-spare-bit", refused(6, 0), over(packed(&three_houses()), last, 1, 1));
     all.marks("eight-houses-extreme-values", &extremes());
     all.marks("three-houses-certified", &three_houses());
 }
@@ -54,21 +56,21 @@ fn houses(all: &mut Cases) {
     let poop = house(0, 10_000, 2_000);
     all.marks("houses-touching", &with(k1(), &[poop, house(10_000, 20_000, 2_000)]));
     let overlapping = house(9_999, 20_000, 2_000);
-    all.refused("houses-overlapping-by-1", 11, 1, &with(k1(), &[poop, overlapping]));
+    all.overlap("houses-overlapping-by-1", 1, 1, &with(k1(), &[poop, overlapping]));
     let late = [poop, house(30_000, 40_000, 1), house(39_999, 50_000, 1)];
-    all.refused("overlapping-at-house-2", 11, 2, &with(k1(), &late));
+    all.overlap("overlapping-at-house-2", 2, 1, &with(k1(), &late));
 }
 
 fn order(all: &mut Cases) {
-    all.bytes("1-before-2", Some((1, 0)), vec![0xff; 26]);
-    all.bytes("2-before-3", Some((2, 0)), vec![0xff; 27]);
+    all.bytes("1-before-2", refused(1, 0), vec![0xff; 26]);
+    all.bytes("2-before-3", refused(2, 0), vec![0xff; 27]);
     let both = over(packed(&k1()), KIND, 2, 3);
-    all.bytes("3-before-4", Some((3, 0)), over(both, COUNT, 4, 9));
+    all.bytes("3-before-4", refused(3, 0), over(both, COUNT, 4, 9));
     let both = over(packed(&k1()), COUNT, 4, 9);
-    all.bytes("4-before-5", Some((4, 0)), resized(both, 30));
+    all.bytes("4-before-5", refused(4, 0), resized(both, 30));
     let both = over(packed(&k1()), SPARE, 6, 63);
-    all.bytes("5-before-6", Some((5, 0)), resized(both.clone(), 35));
-    all.bytes("6-before-7", Some((6, 0)), over(both, 16, 20, 0));
+    all.bytes("5-before-6", refused(5, 0), resized(both.clone(), 35));
+    all.bytes("6-before-7", refused(6, 0), over(both, 16, 20, 0));
     all.refused("7-before-8", 7, 5, &RawShip { cwf: 0, immersion: 7, ..k1() });
     all.refused("7-lowest-field", 7, 2, &RawShip { depth: 0, moulded: 0, cb: 0, ..k1() });
     let bad = house(30_000, 30_000, 2_000);
@@ -81,5 +83,23 @@ fn order(all: &mut Cases) {
     all.refused("9-at-house-2-before-11-at-house-1", 9, 2, &with(k1(), &late));
     all.refused("10-before-11", 10, 0, &with(k1(), &[open_deck, overlapping]));
     let sinking = with(RawShip { depth: 1_000, ..k1() }, &[poop, overlapping]);
-    all.refused("11-before-12", 11, 1, &sinking);
+    all.overlap("11-before-12", 1, 1, &sinking);
+}
+
+/// Lists about refusals 11 and 18, and what comes before and after either.
+pub fn lists(all: &mut Cases) {
+    for case in lists::cases() {
+        all.ship(&case.name, case.expected, &with(k1(), &case.houses));
+    }
+    for (number, expected, houses) in lists::either() {
+        let raw = with(k1(), &houses);
+        let bad = RawShip { displacement: 7, ..raw.clone() };
+        all.refused(&format!("8-before-{number}"), 8, 0, &bad);
+        for (letter, kind) in [('a', 0), ('b', 1)] {
+            let sinking = RawShip { kind, depth: 1_000, ..raw.clone() };
+            all.ship(&format!("{letter}-{number}-before-12"), expected, &sinking);
+            let heavy = RawShip { kind, displacement: 1 << 19, immersion: 1, ..raw.clone() };
+            all.ship(&format!("{letter}-{number}-before-13"), expected, &heavy);
+        }
+    }
 }

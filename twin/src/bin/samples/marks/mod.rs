@@ -1,4 +1,4 @@
-//! Records to work the marks of: the line is the six marks, or one of refusals 1 to 13.
+//! Records to work the marks of: the line is the six marks, or one of refusals 1 to 13 and 18.
 
 mod borders;
 mod damaged;
@@ -11,18 +11,21 @@ mod sheer;
 use std::ops::Range;
 
 use crate::bytes::packed;
+use crate::lists::slips::Lists;
 use crate::slips::{self, tells, Slip, SLIPS};
-use crate::{Expected, Sample};
+use crate::{overlap, refused, Expected, Sample};
 use twin::marks;
 use twin::record::{self, House, RawShip, Ship};
 
 /// Cases that each slip must change, at least.
 const LEAST: usize = 3;
 
+#[derive(Default)]
 pub struct Cases {
     pub samples: Vec<Sample>,
     /// Name of each group, and the place of its first sample.
     groups: Vec<(&'static str, usize)>,
+    pub lists: Lists,
 }
 
 impl Cases {
@@ -44,12 +47,23 @@ impl Cases {
         self.samples.push(Sample::new(name, bytes, line, expected));
     }
 
+    fn ship(&mut self, name: &str, expected: Expected, raw: &RawShip) {
+        // 12 or 13, were there no houses.
+        let bare = RawShip { n: 0, ..raw.clone() }.check();
+        self.lists.add(raw, bare.and_then(|ship| marks::marks(&ship)).err());
+        self.bytes(name, expected, packed(raw));
+    }
+
     fn refused(&mut self, name: &str, number: u8, place: usize, raw: &RawShip) {
-        self.bytes(name, Some((number, place)), packed(raw));
+        self.ship(name, refused(number, place), raw);
+    }
+
+    fn overlap(&mut self, name: &str, place: usize, mm: u64, raw: &RawShip) {
+        self.ship(name, overlap(place, mm), raw);
     }
 
     fn marks(&mut self, name: &str, raw: &RawShip) {
-        self.bytes(name, None, packed(raw));
+        self.ship(name, None, raw);
     }
 
     /// The ships in the cases, of those that can be read.
@@ -105,7 +119,7 @@ fn fuller(raw: RawShip) -> impl Iterator<Item = RawShip> {
 }
 
 pub fn cases() -> Cases {
-    let mut all = Cases { samples: Vec::new(), groups: Vec::new() };
+    let mut all = Cases::default();
     all.group("figures", last::figures);
     all.group("lengths", borders::lengths);
     all.group("rows", borders::rows);
@@ -136,9 +150,11 @@ pub fn cases() -> Cases {
     all.group("low-found", |all| found::for_each_slip(all, found::in_reduction));
     all.group("sheer-mean", sheer::mean);
     all.group("sheer-signs", sheer::signs);
+    all.group("lists", damaged::lists);
     for &(slip, _, what) in SLIPS {
         assert!(all.told_by(slip).len() >= LEAST, "too few cases tell: {what}");
     }
+    all.lists.enough("marks");
     all
 }
 

@@ -63,8 +63,8 @@ fn in_order(l: Span, houses: [House; 8], n: usize) -> Verdict
     let k = first_breach(Rule::Follows, l, houses, n);
     if k < n {
         let before = houses[k - 1];
-        let h = houses[k];
-        return Verdict::Refused(misplaced(k, before, h));
+        let later = houses[k];
+        return Verdict::Refused(misplaced(k, before, later));
     }
     Verdict::Accepted
 }

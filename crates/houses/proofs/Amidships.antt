@@ -2,10 +2,9 @@
 use mathlib.Core.Path.{_≡_}
 use mathlib.Core.Bool.{true, _&&_, and-eq-true-iff}
 use mathlib.Core.List.{List}
-use Prim.Native.Nat.{ℕ, zero, suc, _+_, _*_, _≤_, _<_}
+use Prim.Native.Nat.{ℕ, _+_, _*_, _≤_, _<_}
 use native.Mathlib.Omega.{arith}
 use native.Mathlib.Decide.{decLt}
-use native.Mathlib.Numerals.{add-one}
 use borrow.Author.Tests.{leb-true}
 use lib.Dec.{leb}
 use lib.ListN.{length}
@@ -13,6 +12,7 @@ use Rattle.units.specs.Datum.{stationOf}
 use Rattle.ship.specs.declared.House.{House}
 use Rattle.ship.specs.Vessel.{houseAt}
 use Rattle.ship.specs.Good.{GoodHouses}
+use Rattle.ship.proofs.Accepted.{later}
 use Rattle.houses.specs.Amidships.{coversAmidships}
 
 -- what the test tells
@@ -24,20 +24,10 @@ covers l h e =
     (leb-true _ _ (aft .1), leb-true _ _ (both .1))
 
 module _ (l : ℕ) (hs : List House) (g : GoodHouses l hs) where
-  -- a house ends at or abaft where any later one begins
-  later : (j k : ℕ) → j < k → k < length hs → houseAt hs j .fore .0 ≤ houseAt hs k .aft .0
-  later j zero p q = absurd (omega arith)
-  later j (suc k) p q =
-      let o = rw (add-one k) at (g .order k (omega arith)) in
-      elim (decLt j k) [
-        | yes t ↦ omega (arith, o, later j k t (omega arith), g .each k (omega arith) .ends)
-        | no t ↦ (let e : j ≡ k = omega arith in rw e o)
-      ]
-
   none-later : 0 < l → (j k : ℕ) → k < length hs → coversAmidships l (houseAt hs j) ≡ true → coversAmidships l (houseAt hs k) ≡ true → k ≤ j
   none-later p j k q u v =
       elim (decLt j k) [
-        | yes t ↦ absurd (omega (arith, later j k t q, covers l (houseAt hs j) u, covers l (houseAt hs k) v))
+        | yes t ↦ absurd (omega (arith, later l hs g j k t q, covers l (houseAt hs j) u, covers l (houseAt hs k) v))
         | no t ↦ omega arith
       ]
 

@@ -1,11 +1,12 @@
 -- What an accepted ship shows: each check that it passed, turned back into the fact that it tests.
-use Prim.Native.Nat.{ℕ, suc, _+_, _-_, _≤_, _<_}
+use Prim.Native.Nat.{ℕ, zero, suc, _+_, _-_, _≤_, _<_}
 use mathlib.Core.Bool.{Bool, true, false, not, _||_, _&&_, Bool·beq, true≢false}
 use mathlib.Core.List.{List}
 use mathlib.Core.Path.{_≡_, refl, sym, ap, _∙_}
 use lib.Dec.{eqb, ltb, leb}
 use lib.ListN.{length, getD}
 use borrow.Author.Tests.{ltb-false, leb-false, eqb-true, eqb-false, not-false}
+use native.Mathlib.Decide.{decLt}
 use native.Mathlib.Numerals.{add-one}
 use native.Mathlib.Omega.{arith}
 use Rattle.units.specs.Datum.{stationOf}
@@ -85,6 +86,16 @@ good-houses l hs e =
       order = λ k h.
           rw (add-one k) (ltb-false (houseAt hs (suc k) .aft .0) (houseAt hs k .fore .0) (follows (suc k) (omega arith)));
     }
+
+-- a house of such a list ends at or abaft where any later one begins
+pub later : (l : ℕ) (hs : List House) → GoodHouses l hs → (j k : ℕ) → j < k → k < length hs → houseAt hs j .fore .0 ≤ houseAt hs k .aft .0
+later l hs g j zero p q = absurd (omega arith)
+later l hs g j (suc k) p q =
+    let o = rw (add-one k) at (g .order k (omega arith)) in
+    elim (decLt j k) [
+      | yes t ↦ omega (arith, o, later l hs g j k t (omega arith), g .each k (omega arith) .ends)
+      | no t ↦ (let e : j ≡ k = omega arith in rw e o)
+    ]
 
 certified-of : (a b : ℕ) → not (Bool·beq (eqb a 0) (eqb b 0)) ≡ false → (0 < a → 0 < b) × (0 < b → 0 < a)
 certified-of a b e = go (eqb a 0) (eqb b 0) refl refl e

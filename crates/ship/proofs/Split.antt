@@ -1,9 +1,10 @@
 -- 02 §1: what has become of 01's refusal 11, for every list of houses and every call that checks one.
 use Prim.Native.Nat.{ℕ, zero, suc, _+_, _-_, _≤_, _<_, min, max}
-use mathlib.Core.Bool.{Bool, true, false, true≢false, _&&_, and-eq-true-iff}
+use mathlib.Core.Bool.{Bool, true, false, _&&_, and-eq-true-iff}
 use mathlib.Core.List.{List, [], _∷_, _++_}
-use mathlib.Core.Path.{_≡_, refl, sym, _∙_}
+use mathlib.Core.Path.{_≡_, refl, sym}
 use native.Mathlib.Omega.{arith}
+use native.Mathlib.Decide.{decLt}
 use native.Mathlib.Numerals.{add-one}
 use borrow.Author.Tests.{ltb-true, ltb-false, leb-true, le-leb, eqb-true, ne-eqb}
 use lib.Dec.{eqb, ltb, leb}
@@ -17,9 +18,9 @@ use Rattle.ship.specs.declared.rule.Rule.the-variants.{EndsAndHeight, Ra
 use Rattle.ship.specs.declared.Ship.{Ship}
 use Rattle.ship.specs.Vessel.{housesOf, houseAt, standsOver}
 use Rattle.ship.specs.Refusals.{Paper, Line, refused, overlapping, first}
-use Rattle.ship.specs.Checks.{foreBefore, breaks, breachAt, firstBreach, houseLine, outOfOrder, overlapBetween, orderLines, houseLines, fieldLines}
+use Rattle.ship.specs.Checks.{breaks, breachAt, firstBreach, houseLine, outOfOrder, overlapBetween, orderLines, houseLines, fieldLines}
 use Rattle.ship.proofs.First.{found-fails}
-use Rattle.ship.proofs.Accepted.{obeys, ends-of}
+use Rattle.ship.proofs.Accepted.{obeys, ends-of, good-houses, later}
 
 -- ---- in what words
 -- a verdict as 01 gave it: 18 was 11, and no refusal had an overlap
@@ -50,7 +51,11 @@ pub record Split (l : ℕ) (hs : List House) (new old : Paper) : Type 0 where
   -- the overlap of 11 is at least 1, and the number of whole millimetres that lie in both houses: all houses end within L + 20000
   pub overlap : new .number ≡ 11
       → (1 ≤ new .overlap) × (new .overlap ≡ count (inBoth (houseAt hs (new .place - 1)) (houseAt hs (new .place))) (stationOf (l + 20000)))
-  -- beside any other verdict it is 0
+  -- and no other order of the list mends it: no list that has both houses passes
+  pub stays : new .number ≡ 11
+      → (gs : List House) (i j : ℕ) → i < length gs → j < length gs → ¬ (i ≡ j)
+      → houseAt gs i ≡ houseAt hs (new .place - 1) → houseAt gs j ≡ houseAt hs (new .place) → ¬ (first (houseLines l gs) .number ≡ 0)
+  -- beside any other verdict the overlap is 0
   pub none : ¬ (new .number ≡ 11) → new .overlap ≡ 0
 
 -- ---- counting
@@ -127,6 +132,21 @@ module _ (l : ℕ) (hs : List House) where
       let ends = ends-of l (houseAt hs place) (obeys EndsAndHeight l hs (ltb-false (firstBreach EndsAndHeight l hs) (length hs) nine) place h) in
       (omega (arith, ends .0), count-both (houseAt hs (place - 1)) (houseAt hs place) (stationOf (l + 20000)) (ends .4) o)
 
+  -- two houses that overlap stand in no accepted list
+  overlap-stays : ltb (firstBreach EndsAndHeight l hs) (length hs) ≡ false → place < length hs → outOfOrder (houseAt hs (place - 1)) (houseAt hs place) ≡ false
+      → (gs : List House) (i j : ℕ) → i < length gs → j < length gs → ¬ (i ≡ j) → houseAt gs i ≡ houseAt hs (place - 1) → houseAt gs j ≡ houseAt hs place
+      → ¬ (first (houseLines l gs) .number ≡ 0)
+  unfolding breaks
+  overlap-stays nine h e gs i j m n other p q z =
+      let g = good-houses l gs z in
+      let r = first-reaches h in
+      let o = ltb-false (houseAt hs place .aft .0) (houseAt hs (place - 1) .aft .0) e in
+      let ends = ends-of l (houseAt hs place) (obeys EndsAndHeight l hs (ltb-false (firstBreach EndsAndHeight l hs) (length hs) nine) place h) in
+      elim (decLt i j) [
+        | yes t ↦ (let a = rw (p, q) at (later l gs g i j t n) in omega (arith, r .1, a))
+        | no t ↦ (let a = rw (p, q) at (later l gs g j i (omega arith) m) in omega (arith, ends .0, a))
+      ]
+
 -- ---- along the lines
 -- no part of 02 §1: neither 11 nor 18, and no overlap
 abbrev pub Plain : Paper → Type 0
@@ -143,6 +163,7 @@ module _ (l : ℕ) (hs : List House) where
     joins = rw (ne-eqb (p .number) 18 (q .1)) (sym (λ i. record { number = p .number; place = p .place; overlap = q .2 i }));
     sorted = λ s. q .1;
     overlap = λ e. absurd (q .0 e);
+    stays = λ e. absurd (q .0 e);
     none = λ n. q .2;
   }
 
@@ -191,6 +212,7 @@ module _ (l : ℕ) (hs : List House) where
             joins = refl;
             sorted = λ o z. never-late l hs o k (first-reaches l hs r .0) r m;
             overlap = λ z. absurd (omega arith);
+            stays = λ z. absurd (omega arith);
             none = λ n. refl;
           }
       order true false e h m =
@@ -198,6 +220,7 @@ module _ (l : ℕ) (hs : List House) where
             joins = refl;
             sorted = λ o z. omega arith;
             overlap = λ z. overlaps l hs e (ltb-true k (length hs) h) m;
+            stays = λ z. overlap-stays l hs e (ltb-true k (length hs) h) m;
             none = λ n. absurd (n refl);
           }
 

@@ -23,9 +23,13 @@ static bool load(const char *path, uint8_t *bytes, size_t room, size_t *length)
     return good;
 }
 
-static void refused(uint64_t number, uint64_t place)
+/* A refusal with its place; houses that overlap, with the mm by which they do. */
+static void refused(uint64_t number, uint64_t place, uint64_t overlap)
 {
-    printf("refused %" PRIu64 " %" PRIu64 "\n", number, place);
+    printf("refused %" PRIu64 " %" PRIu64, number, place);
+    if (number == LOADLINE_OVERLAP)
+        printf(" %" PRIu64, overlap);
+    printf("\n");
 }
 
 int main(int argc, char **argv)
@@ -44,7 +48,7 @@ int main(int argc, char **argv)
 
     loadline_marks_answer m = loadline_marks(record, length);
     if (m.refusal != LOADLINE_ACCEPTED)
-        refused(m.refusal, m.place);
+        refused(m.refusal, m.place, m.overlap);
     else
         printf("S %" PRId64 " T %" PRId64 " W %" PRId64 " WNA %" PRId64 " F %" PRId64 " TF %" PRId64 "\n",
                m.s, m.t, m.w, m.wna, m.f, m.tf);
@@ -52,7 +56,7 @@ int main(int argc, char **argv)
     loadline_read_answer read = loadline_read(record, length);
     if (read.refusal != LOADLINE_ACCEPTED) {
         printf("no ship: ");
-        refused(read.refusal, read.place);
+        refused(read.refusal, read.place, read.overlap);
         return EXIT_SUCCESS;    /* a refusal is an answer */
     }
     loadline_ship ship = read.ship;
@@ -64,7 +68,7 @@ int main(int argc, char **argv)
     printf("poop of 1950 mm for S 1000: ");
     loadline_poop_answer poop = loadline_shortest_poop(record, length, 1950, 1000);
     if (poop.refusal != LOADLINE_ACCEPTED)
-        refused(poop.refusal, poop.place);
+        refused(poop.refusal, poop.place, poop.overlap);
     else
         printf("%" PRIu64 " dm\n", poop.decimetres);
 

@@ -5,6 +5,7 @@ from ctypes import c_int64 as i64, c_uint64 as u64
 from pathlib import Path
 
 LONGEST = 91  # bytes of a record
+OVERLAP = 11  # the refusal that has one, in mm
 
 
 class House(Structure):
@@ -23,10 +24,11 @@ class Ship(Structure):
 
 class Answer(Structure):
     """What every answer begins with. Refusal 0 is none; beside another, all else is 0."""
-    _fields_ = [("refusal", u64), ("place", u64)]
+    _fields_ = [("refusal", u64), ("place", u64), ("overlap", u64)]
 
     def __str__(self):
-        return f"refused {self.refusal} {self.place}"
+        overlap = f" {self.overlap}" if self.refusal == OVERLAP else ""
+        return f"refused {self.refusal} {self.place}{overlap}"
 
 
 class MarksAnswer(Answer):
@@ -45,7 +47,8 @@ class WriteAnswer(Answer):
     _fields_ = [("bytes", u64)]
 
 
-library = CDLL(str(Path(__file__).resolve().parent.parent / "target/lib/libloadline.so"))
+# The number is the header's: with other structs than these the library has another.
+library = CDLL(str(Path(__file__).resolve().parent.parent / "target/lib/libloadline.so.2"))
 # ctypes takes what is not declared for a C int, so each call is declared.
 for call, result, arguments in (
     (library.loadline_marks, MarksAnswer, [c_char_p, c_size_t]),

@@ -14,7 +14,8 @@ mod loadline {
         pub sheer: [i64; 6], pub displacement: u64, pub immersion: u64, pub houses: [House; 8],
     }
     #[repr(C)] pub struct Marks { pub s: i64, pub t: i64, pub w: i64, pub wna: i64, pub f: i64, pub tf: i64 }
-    #[repr(C)] pub struct Refusal { pub number: u64, pub place: u64 }
+    /// The overlap, in mm, is 0 but for houses that overlap.
+    #[repr(C)] pub struct Refusal { pub number: u64, pub place: u64, pub overlap: u64 }
     /// What each call gives: the refusal, its number 0 for none, then the rest.
     #[repr(C)] struct Answer<T> { refusal: Refusal, rest: T }
     impl<T> Answer<T> {
@@ -47,10 +48,20 @@ mod loadline {
     }
 }
 
+impl std::fmt::Display for loadline::Refusal {
+    fn fmt(&self, f: &mut std::fmt::Formatter) -> std::fmt::Result {
+        write!(f, "refused {} {}", self.number, self.place)?;
+        if self.overlap > 0 {
+            write!(f, " {}", self.overlap)?;
+        }
+        Ok(())
+    }
+}
+
 fn show(record: &[u8]) -> Result<(), loadline::Refusal> {
     match loadline::marks(record) {
         Ok(m) => println!("S {} T {} W {} WNA {} F {} TF {}", m.s, m.t, m.w, m.wna, m.f, m.tf),
-        Err(r) => println!("refused {} {}", r.number, r.place),
+        Err(r) => println!("{r}"),
     }
     let ship = loadline::read(record)?;
     print!("L {} type {} houses {}", ship.length, ["A", "B"][ship.kind as usize], ship.n);
@@ -60,7 +71,7 @@ fn show(record: &[u8]) -> Result<(), loadline::Refusal> {
     print!("\npoop of 1950 mm for S 1000: ");
     match loadline::shortest_poop(record, 1950, 1000) {
         Ok(decimetres) => println!("{decimetres} dm"),
-        Err(r) => println!("refused {} {}", r.number, r.place),
+        Err(r) => println!("{r}"),
     }
     let mut copy = [0; 91];
     match loadline::write(&mut copy, &ship) {
@@ -82,7 +93,7 @@ fn main() -> ExitCode {
         return ExitCode::FAILURE;
     }
     if let Err(r) = show(&record) {
-        println!("no ship: refused {} {}", r.number, r.place); // a refusal is an answer, no failure
+        println!("no ship: {r}"); // a refusal is an answer, no failure
     }
     ExitCode::SUCCESS
 }

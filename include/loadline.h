@@ -21,8 +21,8 @@
  * A proved archive is known by what ./library prints beside it: the kit that proved it (rt version), the commit and the
  * archive's SHA-256.
  *
- * Refusals. The first that applies is given, in the order of these lines. The place is 0 where none is named, and the overlap is 0
- * beside every refusal but 11.
+ * Refusals. The order of the lines is the order of the checks: the first that applies is given. The place is 0 where none is
+ * named. The overlap is 0 beside every refusal but 11.
  * Calls: M loadline_marks, P loadline_shortest_poop, R loadline_read, W loadline_write.
  *
  *   No.  When                                                              Place                         Calls
@@ -39,11 +39,11 @@
  *        above L + 20000, height outside 1 to 8191                         first such house, from 0      M P R W
  *   10   raised quarterdeck: not enclosed, aft end above 0,
  *        or fore end at or above L                                         first such house, from 0      M P R W
- *        aft end below the previous house's fore end: the first such
- *        house decides which of the two is given
- *   18   out of order: its aft end is below the previous one's aft end too that house                    M P R W
- *   11   otherwise overlap, with the mm that lie in both houses: the
- *        smaller of their fore ends minus the later aft end                that house                    M P R W
+ *        11 and 18 are one check: the first house whose aft end is below
+ *        the previous house's fore end decides which is given.
+ *   18   out of order: its aft end is below the previous aft end too       that house, from 0            M P R W
+ *   11   overlap: it is not. The overlap is the smaller of the two fore
+ *        ends minus the later aft end, the mm that lie in both houses      that house, from 0            M P R W
  *   12   summer mark at or above D                                                                       M
  *   13   fresh allowance above summer draught                                                            M
  *   14   poop's height outside 1 to 8191, or wish outside 50 to 60000                                    P
@@ -56,6 +56,10 @@
 
 #include <stddef.h>
 #include <stdint.h>
+
+/* Another number with every change of a struct or a call. The shared library carries it in its own name, libloadline.so.N, so that
+ * no program runs with structs that it was not made for. 2: every answer has an overlap. */
+#define LOADLINE_HEADER 2
 
 #ifdef __cplusplus
 extern "C" {
@@ -113,8 +117,8 @@ typedef struct {
     loadline_house houses[LOADLINE_MOST_HOUSES];     /* the first n, in order from aft; they may touch, not overlap */
 } loadline_ship;
 
-/* Every answer begins with the refusal's number, 0 for none, its place, and for 11 the overlap in mm, at least 1. Beside a refusal
- * all else is 0. */
+/* Every answer begins with the refusal's number, 0 for none, its place, and the overlap in mm, which is at least 1 for
+ * LOADLINE_OVERLAP and 0 otherwise. Beside a refusal all else is 0. */
 typedef struct {
     uint64_t refusal, place, overlap;
     int64_t s, t, w, wna, f, tf;    /* freeboards, mm: summer, tropical, winter, winter North Atlantic, fresh,

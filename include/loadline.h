@@ -58,7 +58,7 @@
 #include <stdint.h>
 
 /* Another number with every change of a struct or a call. The shared library carries it in its own name, libloadline.so.N, so that
- * no program runs with structs that it was not made for. 2: every answer has an overlap. */
+ * no program that was linked to one loads it for another. 2: every answer has an overlap. */
 #define LOADLINE_HEADER 2
 
 #ifdef __cplusplus

@@ -82,10 +82,11 @@ pub fn marked(m: Marks) -> MarksAnswer
 pub fn unmarked(r: Refusal) -> MarksAnswer
     ensures { λ a. ⌜ a ≡ fromSheet (sheet (Refused r)) ⌝ }
 {
+    let overlap = refusal::overlap(r);
     MarksAnswer {
         refusal: refusal::number(r),
         place: refusal::place(r),
-        overlap: refusal::overlap(r),
+        overlap,
         s: 0,
         t: 0,
         w: 0,

@@ -55,7 +55,7 @@ fn all_keep(l: Span, houses: [House; 8], n: usize) -> bool
     true
 }
 
-// Checks 11 and 18 on the first `n` houses: the first that reaches back over the one before it decides.
+// Checks 11 and 18 on the first `n` houses: the first that begins abaft the fore end of the one before it decides.
 fn in_order(l: Span, houses: [House; 8], n: usize) -> Verdict
     requires { ⌜ (l .0 ≤ 365000) × (n ≤ 8) ⌝ }
     ensures { λ v. ⌜ paper v ≡ first (orderLines (l .0) (take n houses)) ⌝ }

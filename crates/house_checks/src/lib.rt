@@ -1,10 +1,9 @@
 // Checks 9, 10 and 11 or 18 on one house.
-ghost use mathlib.Core.Bool.{_||_};
+ghost use mathlib.Core.Bool.{true, _||_};
 ghost use mathlib.Core.Path.{_≡_};
 ghost use Prim.Native.Nat.{_≤_};
-ghost use Rattle.whole.specs.Pick.{pick};
-ghost use Rattle.ship.specs.Refusals.{refused, overlapping, refusedAs};
-ghost use Rattle.ship.specs.Checks.{breaks, badEnds, badQuarterdeck, outOfOrder, overlapBetween};
+ghost use Rattle.ship.specs.Refusals.{refusedAs, first};
+ghost use Rattle.ship.specs.Checks.{breaks, badEnds, badQuarterdeck, orderLinesAt};
 ghost use Rattle.ship.specs.declared.rule.Rule.the-variants.{EndsAndHeight, RaisedQuarterdeck, Follows};
 use ship::House;
 use ship::refusal::Refusal;
@@ -82,9 +81,9 @@ pub fn breaks_any(l: Span, before: Station, h: House) -> bool
     ends | deck | order
 }
 
-// Why the house at place k is refused if it reaches back over the one before it: by 18 if it begins abaft that one, which sorting mends, else by 11.
+// Why the house at place k is refused if it begins abaft the fore end of the one before it: by 18 if abaft its aft end too, which sorting can mend, else by 11.
 pub fn misplaced(k: usize, before: House, h: House) -> Refusal
-    ensures { λ r. ⌜ refusedAs r ≡ pick (outOfOrder before h) (refused 18 k) (overlapping k (overlapBetween before h)) ⌝ }
+    ensures { λ r. ⌜ refusedAs r ≡ first (orderLinesAt k true before h) ⌝ }
 {
     let aft = h.aft;
     let begins = before.aft;

@@ -1,4 +1,4 @@
--- 01's number, place and marks name one answer: no two answers have the same sheet.
+-- Number, place, overlap and marks name one answer: no two answers have the same sheet.
 use mathlib.Core.Path.{_≡_, sym, ap, _∙_}
 use native.Mathlib.Omega.{arith}
 use lib.Dec.{eqb}

@@ -32,7 +32,7 @@ module _ (height wish : ℕ) where
   unfolding replyIn
   reply-refused s r e = call-refused answer more s r e ∙ beside-refusal r (shortestFor (shipIn s) height wish) (refusing (refusedAs r))
 
--- ---- 01's number, place and length name one answer
+-- ---- number, place, overlap and length name one answer
 pub one-reply : (a b : Answer) → reply a ≡ reply b → a ≡ b
 one-reply (Poop j) (Poop k) e = ap Poop (ap (λ (r : Reply). r .decimetres) e)
 one-reply (Poop j) (Refused r) e = absurd (omega (arith, number-above-0 r, ap (λ (z : Reply). z .verdict .number) e))

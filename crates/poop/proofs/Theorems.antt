@@ -12,7 +12,7 @@ use Rattle.ship.specs.declared.Ship.{Ship}
 use Rattle.ship.specs.Vessel.{housesOf}
 use Rattle.ship.specs.Refusals.{Paper, Line, accepted, first}
 use Rattle.ship.specs.Checks.{fieldLines, houseLines, shipLines}
-use Rattle.ship.proofs.Lines.{AllPass, all-pass-split, first-skip}
+use Rattle.ship.proofs.Lines.{first-has, AllPass, all-pass-split, first-skip}
 use Rattle.record.specs.Layout.{shipIn}
 use Rattle.record.specs.Reading.{frameLines, readingIn}
 use Rattle.record.proofs.Framed.{passes-all, ship-is}
@@ -21,20 +21,6 @@ use Rattle.mark.specs.Others.{markLines}
 use Rattle.trial.specs.Poop.{poopHouse, withFirst, withPoop, within, marksWithin, fitsAt}
 use Rattle.question.specs.Question.{Reply, refusing, noLength, Shortest, fitting, none, askLines, replyOf, shortestFor, replyIn}
 use Rattle.question.proofs.Search.{is-shortest, one-shortest}
-
--- no line refuses by 16, which is the search's own
-abbrev Not16 : List Line → Type 0
-Not16 [] = Unit {0}
-Not16 (t ∷ ts) = (¬ (t .1 .number ≡ 16)) × Not16 ts
-
-first-not-16 : (ts : List Line) → Not16 ts → ¬ (first ts .number ≡ 16)
-unfolding first pick
-first-not-16 [] m = λ e. omega arith
-first-not-16 (t ∷ ts) m = go (t .0) (first-not-16 ts (m .1))
-  where
-    go : (b : Bool) → ¬ (first ts .number ≡ 16) → ¬ (pick b (t .1) (first ts) .number ≡ 16)
-    go true h = m .0
-    go false h = h
 
 -- a reply of number 0 or 16 is the search's
 from-search : (p : Paper) (r : Reply) → ¬ (p .number ≡ 16) → (¬ (replyOf p r .verdict .number ≡ 0) → replyOf p r .verdict .number ≡ 16) → replyOf p r ≡ r
@@ -69,7 +55,7 @@ module _ (s : List ℕ) (height wish : ℕ) where
 
   same : (¬ (replyIn s height wish .verdict .number ≡ 0) → replyIn s height wish .verdict .number ≡ 16) → replyIn s height wish ≡ shortestFor x height wish
   unfolding replyIn
-  same h = from-search (first lines) (shortestFor x height wish) (first-not-16 lines (omega arith)) h
+  same h = from-search (first lines) (shortestFor x height wish) (first-has (λ p. ¬ (p .number ≡ 16)) (λ e. omega arith) lines (omega arith)) h
 
   found : (¬ (replyIn s height wish .verdict .number ≡ 0) → replyIn s height wish .verdict .number ≡ 16) → Shortest (fitsAt x height wish) (x .length .0) (replyIn s height wish)
   found h = subst (λ (r : Reply). Shortest (fitsAt x height wish) (x .length .0) r) (sym (same h)) (is-shortest x height wish)

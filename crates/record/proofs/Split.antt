@@ -7,17 +7,18 @@ use Rattle.ship.specs.declared.Ship.{Ship}
 use Rattle.ship.specs.Vessel.{housesOf}
 use Rattle.ship.specs.Refusals.{Paper, Line, refused, first}
 use Rattle.ship.specs.Checks.{fieldLines, shipLines}
-use Rattle.ship.proofs.Split.{Split, AllPlain, shipLines01, split-lines}
+use Rattle.ship.proofs.Lines.{Each}
+use Rattle.ship.proofs.Split.{Split, Plain, shipLines01, split-lines}
 use Rattle.record.specs.Layout.{recordLength, lastType, mostHouses, shipIn}
 use Rattle.record.specs.Reading.{frameLines, readingIn}
-use Rattle.record.specs.Writing.{writingOf}
+use Rattle.record.specs.Writing.{writeLinesWith, writingOf}
 
 -- of a ship
 abbrev pub SplitOn : Ship → Paper → Paper → Type 0
 SplitOn x = Split (x .length .0) (housesOf x)
 
 -- a call on bytes, with its own lines behind the reading's
-pub split-call : (s : List ℕ) (more : List Line) → AllPlain more
+pub split-call : (s : List ℕ) (more : List Line) → Each Plain more
     → SplitOn (shipIn s) (first (frameLines s ++ shipLines (shipIn s) ++ more)) (first (frameLines s ++ shipLines01 (shipIn s) ++ more))
 split-call s more a =
     let x = shipIn s in
@@ -27,11 +28,7 @@ pub split-read : (s : List ℕ) → SplitOn (shipIn s) (readingIn s .verdict) (f
 unfolding readingIn
 split-read s = split-call s [] tt
 
-pub split-write : (room : ℕ) (x : Ship)
-    → let three : Line = (ltb lastType (x .kind), refused 3 0) in
-    let four : Line = (ltb mostHouses (x .n), refused 4 0) in
-    let seventeen : Line = (ltb room (recordLength (x .n)), refused 17 0) in
-    SplitOn x (writingOf room x) (first (three ∷ four ∷ shipLines01 x ++ (seventeen ∷ [])))
+pub split-write : (room : ℕ) (x : Ship) → SplitOn x (writingOf room x) (first (writeLinesWith (shipLines01 x) room x))
 unfolding writingOf
 split-write room x =
     split-lines (x .length .0) (housesOf x)

@@ -9,12 +9,16 @@ use Rattle.ship.specs.Refusals.{Paper, Line, refused, first}
 use Rattle.ship.specs.Checks.{shipLines}
 use Rattle.record.specs.Layout.{recordLength, lastType, mostHouses, recordBytes}
 
-abbrev pub writeLines : ℕ → Ship → List Line
-writeLines room x =
+-- 3 and 4, the ship's own lines, and 17
+abbrev pub writeLinesWith : List Line → ℕ → Ship → List Line
+writeLinesWith own room x =
     (ltb lastType (x .kind), refused 3 0)
     ∷ (ltb mostHouses (x .n), refused 4 0)
-    ∷ shipLines x
+    ∷ own
     ++ ((ltb room (recordLength (x .n)), refused 17 0) ∷ [])
+
+abbrev pub writeLines : ℕ → Ship → List Line
+writeLines room x = writeLinesWith (shipLines x) room x
 
 -- the verdict on writing a ship into a buffer of so many bytes
 unfoldable pub writingOf : ℕ → Ship → Paper

@@ -8,13 +8,27 @@ use lib.Dec.{eqb}
 use borrow.Author.Tests.{ne-eqb}
 use Rattle.whole.specs.Pick.{pick}
 use Rattle.ship.specs.declared.refusal.Refusal.{Refusal}
-use Rattle.ship.specs.Refusals.{Line, accepted, numberOf, refusedAs, first}
+use Rattle.ship.specs.Refusals.{Paper, Line, accepted, numberOf, refusedAs, first}
 use Rattle.ship.proofs.OneToOne.{number-above-0}
+
+-- what each line refuses has a property
+abbrev pub Each : (Paper → Type 0) → List Line → Type 0
+Each P [] = Unit {0}
+Each P (t ∷ ts) = P (t .1) × Each P ts
+
+-- then the verdict has it, if acceptance has
+pub first-has : (P : Paper → Type 0) → P accepted → (ts : List Line) → Each P ts → P (first ts)
+unfolding first pick
+first-has P p [] e = p
+first-has P p (t ∷ ts) e = go (t .0) (first-has P p ts (e .1))
+  where
+    go : (b : Bool) → P (first ts) → P (pick b (t .1) (first ts))
+    go true r = e .0
+    go false r = r
 
 -- no line refuses by the number 0, which means acceptance
 abbrev pub Numbered : List Line → Type 0
-Numbered [] = Unit {0}
-Numbered (t ∷ ts) = (0 < t .1 .number) × Numbered ts
+Numbered = Each (λ p. 0 < p .number)
 
 -- no line's check fails
 abbrev pub AllPass : List Line → Type 0

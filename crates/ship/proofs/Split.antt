@@ -20,6 +20,7 @@ use Rattle.ship.specs.Vessel.{housesOf, houseAt, standsOver}
 use Rattle.ship.specs.Refusals.{Paper, Line, refused, overlapping, first}
 use Rattle.ship.specs.Checks.{breaks, breachAt, firstBreach, houseLine, outOfOrder, overlapBetween, orderLines, houseLines, fieldLines}
 use Rattle.ship.proofs.First.{found-fails}
+use Rattle.ship.proofs.Lines.{Each, first-has}
 use Rattle.ship.proofs.Accepted.{obeys, ends-of, good-houses, later}
 
 -- ---- in what words
@@ -98,20 +99,20 @@ module _ (g h : House) where
       let s = count-between 0 (max (g .aft .0) (h .aft .0)) (min (g .fore .0) (h .fore .0)) n in
       omega (arith, c, s)
 
--- ---- the first house that reaches back over the one before it
+-- ---- the first bad house: it begins abaft the fore end of the one before it
 module _ (l : ℕ) (hs : List House) where
   abbrev place : ℕ
   place = firstBreach Follows l hs
 
-  reaches : (k : ℕ) → breachAt Follows l hs k ≡ true → (1 ≤ k) × (houseAt hs k .aft .0 < houseAt hs (k - 1) .fore .0)
+  begins : (k : ℕ) → breachAt Follows l hs k ≡ true → (1 ≤ k) × (houseAt hs k .aft .0 < houseAt hs (k - 1) .fore .0)
   unfolding breachAt breaks
-  reaches zero e = absurd (omega (arith, ltb-true (houseAt hs 0 .aft .0) 0 e))
-  reaches (suc k) e = let b : suc k - 1 ≡ k = omega arith in (omega arith, rw b (ltb-true (houseAt hs (suc k) .aft .0) (houseAt hs k .fore .0) e))
+  begins zero e = absurd (omega (arith, ltb-true (houseAt hs 0 .aft .0) 0 e))
+  begins (suc k) e = let b : suc k - 1 ≡ k = omega arith in (omega arith, rw b (ltb-true (houseAt hs (suc k) .aft .0) (houseAt hs k .fore .0) e))
 
   -- it is not the first of the list
-  pub first-reaches : place < length hs → (1 ≤ place) × (houseAt hs place .aft .0 < houseAt hs (place - 1) .fore .0)
+  pub first-bad : place < length hs → (1 ≤ place) × (houseAt hs place .aft .0 < houseAt hs (place - 1) .fore .0)
   unfolding firstBreach
-  first-reaches h = reaches place (found-fails (breachAt Follows l hs) 0 (length hs) (omega arith))
+  first-bad h = begins place (found-fails (breachAt Follows l hs) 0 (length hs) (omega arith))
 
   -- in a list in order of aft ends it is not out of order
   never-late : Sorted hs → (k : ℕ) → 1 ≤ k → k < length hs → outOfOrder (houseAt hs (k - 1)) (houseAt hs k) ≡ true → ⊥
@@ -127,7 +128,7 @@ module _ (l : ℕ) (hs : List House) where
       (1 ≤ mm) × (mm ≡ count (inBoth (houseAt hs (place - 1)) (houseAt hs place)) (stationOf (l + 20000)))
   unfolding breaks
   overlaps nine h e =
-      let r = first-reaches h in
+      let r = first-bad h in
       let o = ltb-false (houseAt hs place .aft .0) (houseAt hs (place - 1) .aft .0) e in
       let ends = ends-of l (houseAt hs place) (obeys EndsAndHeight l hs (ltb-false (firstBreach EndsAndHeight l hs) (length hs) nine) place h) in
       (omega (arith, ends .0), count-both (houseAt hs (place - 1)) (houseAt hs place) (stationOf (l + 20000)) (ends .4) o)
@@ -139,7 +140,7 @@ module _ (l : ℕ) (hs : List House) where
   unfolding breaks
   overlap-stays nine h e gs i j m n other p q z =
       let g = good-houses l gs z in
-      let r = first-reaches h in
+      let r = first-bad h in
       let o = ltb-false (houseAt hs place .aft .0) (houseAt hs (place - 1) .aft .0) e in
       let ends = ends-of l (houseAt hs place) (obeys EndsAndHeight l hs (ltb-false (firstBreach EndsAndHeight l hs) (length hs) nine) place h) in
       elim (decLt i j) [
@@ -152,10 +153,6 @@ module _ (l : ℕ) (hs : List House) where
 abbrev pub Plain : Paper → Type 0
 Plain p = (¬ (p .number ≡ 11)) × (¬ (p .number ≡ 18)) × (p .overlap ≡ 0)
 
-abbrev pub AllPlain : List Line → Type 0
-AllPlain [] = Unit {0}
-AllPlain (t ∷ ts) = Plain (t .1) × AllPlain ts
-
 module _ (l : ℕ) (hs : List House) where
   pub split-plain : (p : Paper) → Plain p → Split l hs p p
   unfolding pick
@@ -167,17 +164,8 @@ module _ (l : ℕ) (hs : List House) where
     none = λ n. q .2;
   }
 
-  first-plain : (ts : List Line) → AllPlain ts → Plain (first ts)
-  unfolding first pick
-  first-plain [] a = (λ e. omega arith, λ e. omega arith, refl)
-  first-plain (t ∷ ts) a = go (t .0) (first-plain ts (a .1))
-    where
-      go : (b : Bool) → Plain (first ts) → Plain (pick b (t .1) (first ts))
-      go true p = a .0
-      go false p = p
-
   -- plain lines before others
-  split-behind : (ts us vs : List Line) → AllPlain ts → Split l hs (first us) (first vs) → Split l hs (first (ts ++ us)) (first (ts ++ vs))
+  split-behind : (ts us vs : List Line) → Each Plain ts → Split l hs (first us) (first vs) → Split l hs (first (ts ++ us)) (first (ts ++ vs))
   unfolding first pick
   split-behind [] us vs a s = s
   split-behind (t ∷ ts) us vs a s = go (t .0) (split-behind ts us vs (a .1) s)
@@ -187,7 +175,7 @@ module _ (l : ℕ) (hs : List House) where
       go false r = r
 
   -- 9 to 11 and 18, before plain lines
-  split-houses : (us : List Line) → AllPlain us → Split l hs (first (houseLines l hs ++ us)) (first (houseLines01 l hs ++ us))
+  split-houses : (us : List Line) → Each Plain us → Split l hs (first (houseLines l hs ++ us)) (first (houseLines01 l hs ++ us))
   unfolding first pick
   split-houses us a = nine (ltb (firstBreach EndsAndHeight l hs) (length hs)) refl
     where
@@ -205,12 +193,12 @@ module _ (l : ℕ) (hs : List House) where
 
       order : (b c : Bool) → ltb (firstBreach EndsAndHeight l hs) (length hs) ≡ false → ltb k (length hs) ≡ b → late ≡ c
           → Split l hs (pick (b && c) (refused 18 k) (pick b (overlapping k mm) (first us))) (pick b (refused 11 k) (first us))
-      order false c e h m = split-plain (first us) (first-plain us a)
+      order false c e h m = split-plain (first us) (first-has Plain (λ z. omega arith, λ z. omega arith, refl) us a)
       order true true e h m =
           let r = ltb-true k (length hs) h in
           record {
             joins = refl;
-            sorted = λ o z. never-late l hs o k (first-reaches l hs r .0) r m;
+            sorted = λ o z. never-late l hs o k (first-bad l hs r .0) r m;
             overlap = λ z. absurd (omega arith);
             stays = λ z. absurd (omega arith);
             none = λ n. refl;
@@ -237,7 +225,7 @@ module _ (l : ℕ) (hs : List House) where
       nine false e = ten deck e
 
   -- what a call says where its lines accept: it accepts by the same lines as before
-  same-zero : (new : Paper) → eqb (joined new .number) 0 ≡ eqb (new .number) 0
+  pub same-zero : (new : Paper) → eqb (joined new .number) 0 ≡ eqb (new .number) 0
   unfolding pick
   same-zero new = go (eqb (new .number) 18) refl
     where
@@ -254,6 +242,6 @@ module _ (l : ℕ) (hs : List House) where
       go false = rw (s .joins) s
 
   -- THE LAW, over the lines that stand before and after: those of each call
-  pub split-lines : (ts us : List Line) → AllPlain ts → AllPlain us
+  pub split-lines : (ts us : List Line) → Each Plain ts → Each Plain us
       → Split l hs (first (ts ++ (houseLines l hs ++ us))) (first (ts ++ (houseLines01 l hs ++ us)))
   split-lines ts us a b = split-behind ts (houseLines l hs ++ us) (houseLines01 l hs ++ us) a (split-houses us b)

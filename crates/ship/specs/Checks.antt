@@ -65,14 +65,14 @@ foreBefore hs zero = 0
 foreBefore hs (suc k) = houseAt hs k .fore .0
 
 -- 11 and 18: aft end below the previous house's fore end
-abbrev pub reachesBack : ℕ → House → Bool
-reachesBack before h = ltb (h .aft .0) before
+abbrev pub beginsAbaft : ℕ → House → Bool
+beginsAbaft before h = ltb (h .aft .0) before
 
 -- whether a house breaks a rule; before is the fore end of the house before it
 unfoldable pub breaks : Rule → ℕ → ℕ → House → Bool
 breaks EndsAndHeight l before h = badEnds l h
 breaks RaisedQuarterdeck l before h = badQuarterdeck l h
-breaks Follows l before h = reachesBack before h
+breaks Follows l before h = beginsAbaft before h
 
 -- and the house at place k of a list
 unfoldable pub breachAt : Rule → ℕ → List House → ℕ → Bool
@@ -93,15 +93,15 @@ outOfOrder before h = ltb (h .aft .0) (before .aft .0)
 abbrev pub overlapBetween : House → House → ℕ
 overlapBetween before h = min (before .fore .0) (h .fore .0) - h .aft .0
 
--- 11 or 18: the first house that reaches back over the one before it decides which is given, and is the place of either
-abbrev pub orderLinesAt : ℕ → List House → List Line
-orderLinesAt k hs =
-    (ltb k (length hs) && outOfOrder (houseAt hs (k - 1)) (houseAt hs k), refused 18 k)
-    ∷ (ltb k (length hs), overlapping k (overlapBetween (houseAt hs (k - 1)) (houseAt hs k)))
-    ∷ []
+-- of a house at place k, if it is bad, and the one before it
+abbrev pub orderLinesAt : ℕ → Bool → House → House → List Line
+orderLinesAt k bad before h = (bad && outOfOrder before h, refused 18 k) ∷ (bad, overlapping k (overlapBetween before h)) ∷ []
 
+-- 11 or 18: the first bad house decides which is given, and is the place of either
 abbrev pub orderLines : ℕ → List House → List Line
-orderLines l hs = orderLinesAt (firstBreach Follows l hs) hs
+orderLines l hs =
+    let k = firstBreach Follows l hs in
+    orderLinesAt k (ltb k (length hs)) (houseAt hs (k - 1)) (houseAt hs k)
 
 -- 9 to 11 and 18, on a list of houses and L alone
 abbrev pub houseLines : ℕ → List House → List Line

@@ -1,4 +1,4 @@
--- 01, "Ship record": the empty house, the ship of zeros, and when two ships are equal.
+-- 01, "Ship record": the empty house, the ship of zeros, where a house stands, and when two ships are equal.
 use Prim.Native.Nat.{ℕ, _+_, _-_}
 use mathlib.Core.List.{List, _++_}
 use mathlib.Core.Path.{_≡_}

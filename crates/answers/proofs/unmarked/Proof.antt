@@ -13,5 +13,5 @@ unmarked-spec =
     (λ c κs. search needs)
     (λ c κs. search needs)
     (λ c.
-    let p = c .before in
-    λ i. record { refusal = p .before .number .ensures i; place = p .place .ensures i; overlap = c .overlap .ensures i; s = pos 0; t = pos 0; w = pos 0; wna = pos 0; f = pos 0; tf = pos 0 }))
+    let n = c .before in
+    λ i. record { refusal = n .number .ensures i; place = c .place .ensures i; overlap = n .before .overlap .ensures i; s = pos 0; t = pos 0; w = pos 0; wna = pos 0; f = pos 0; tf = pos 0 }))

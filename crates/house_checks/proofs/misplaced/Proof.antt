@@ -1,11 +1,12 @@
 use mathlib.Core.Path.{refl, sym, _∙_}
 use borrow.Author.Needs.{needs}
 use Rattle.whole.specs.Pick.{pick}
+use Rattle.ship.specs.Refusals.{first}
 use Rattle.house_checks.proofs.misplaced.Statement.{statement}
 use Rattle.house_checks.proofs.misplaced.Tie as tie
 
 pub misplaced-spec : {M : Type 1} → statement M
-unfolding pick
+unfolding first pick
 misplaced-spec =
     tie.close
     (tie.spec

@@ -211,8 +211,12 @@ mod tests {
         }
         assert_eq!(tally.unseen(), None, "{tally}");
         for (call, seen) in CALLS.iter().zip(&tally.refusals) {
-            let least = if *call == WRITES_BACK { 0 } else { 100 };
-            assert!(seen[10] >= least && seen[17] >= least, "{tally}");
+            let [overlap, order] = [seen[10], seen[17]];
+            if *call == WRITES_BACK {
+                assert_eq!([overlap, order], [0, 0], "{tally}");
+            } else {
+                assert!(overlap >= 100 && order >= 100, "{tally}");
+            }
         }
     }
 

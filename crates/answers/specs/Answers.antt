@@ -1,4 +1,4 @@
--- The answers of the calls for C: the papers' numbers laid out flat. Refusal 0 refuses nothing; beside any other all else is zero.
+-- The answers of the calls for C: the papers' numbers laid out flat. Number 0 refuses nothing; beside any other all else is zero.
 use Prim.Native.Nat.{_^_, _<_}
 use mathlib.Core.Path.{_≡_}
 use lib.Dec.{eqb}
@@ -21,9 +21,7 @@ use Rattle.flat.specs.Flat.{shipOf}
 
 unfoldable pub fromSheet : Sheet → MarksAnswer
 fromSheet a = record {
-  refusal = a .verdict .number;
-  place = a .verdict .place;
-  overlap = a .verdict .overlap;
+  verdict = a .verdict;
   s = pos (a .marks .s);
   t = pos (a .marks .t);
   w = pos (a .marks .w);
@@ -34,7 +32,7 @@ fromSheet a = record {
 
 -- where marks are given, S is never below the exact value, and less than 1.1 mm above it
 abbrev pub Bounded : MarksAnswer → Ship → Type 0
-Bounded a x = a .refusal ≡ 0 → Holds (natAbs (a .s)) (exactSummerOf x)
+Bounded a x = a .verdict .number ≡ 0 → Holds (natAbs (a .s)) (exactSummerOf x)
 
 -- marks that a signed number holds with ease
 pub record Small (m : Marks) : Type 0 where
@@ -44,11 +42,11 @@ pub record Small (m : Marks) : Type 0 where
   pub wna : m .wna < 2 ^ 32
 
 unfoldable pub fromReply : Reply → PoopAnswer
-fromReply a = record { refusal = a .verdict .number; place = a .verdict .place; overlap = a .verdict .overlap; decimetres = a .decimetres }
+fromReply a = record { verdict = a .verdict; decimetres = a .decimetres }
 
 unfoldable pub fromReading : Reading → ReadAnswer
-fromReading a = record { refusal = a .verdict .number; place = a .verdict .place; overlap = a .verdict .overlap; ship = shipOf (a .ship) }
+fromReading a = record { verdict = a .verdict; ship = shipOf (a .ship) }
 
 -- with the record's length
 unfoldable pub fromVerdict : Paper → Ship → WriteAnswer
-fromVerdict p x = record { refusal = p .number; place = p .place; overlap = p .overlap; bytes = pick (eqb (p .number) 0) (recordLength (x .n)) 0 }
+fromVerdict p x = record { verdict = p; bytes = pick (eqb (p .number) 0) (recordLength (x .n)) 0 }

@@ -1,4 +1,4 @@
-// The answers of the calls for C: structs of 64-bit numbers, by value. Refusal 0 refuses nothing; beside any other all else is 0.
+// The answers of the calls for C: structs of 64-bit numbers, by value. Each begins with the verdict's number, place and overlap; beside a refusal all else is 0.
 ghost use mathlib.Core.Path.{_≡_};
 ghost use Prim.Native.Nat.{_≤_};
 ghost use lib.Dec.{eqb};
@@ -14,15 +14,14 @@ use mark::Marks;
 use record::HEAD_BYTES;
 use record::HOUSE_BYTES;
 use ship::refusal;
+use ship::refusal::Paper;
 use ship::refusal::Refusal;
 use ship::refusal::Verdict;
 
 // The six marks, in mm below the deck line.
 #[repr(C)]
 pub struct MarksAnswer {
-    pub refusal: u64,
-    pub place: u64,
-    pub overlap: u64,
+    pub verdict: Paper,
     pub s: i64,
     pub t: i64,
     pub w: i64,
@@ -34,27 +33,21 @@ pub struct MarksAnswer {
 // The shortest poop.
 #[repr(C)]
 pub struct PoopAnswer {
-    pub refusal: u64,
-    pub place: u64,
-    pub overlap: u64,
+    pub verdict: Paper,
     pub decimetres: u64,
 }
 
 // The ship that was read.
 #[repr(C)]
 pub struct ReadAnswer {
-    pub refusal: u64,
-    pub place: u64,
-    pub overlap: u64,
+    pub verdict: Paper,
     pub ship: FlatShip,
 }
 
 // The length of the record that was written.
 #[repr(C)]
 pub struct WriteAnswer {
-    pub refusal: u64,
-    pub place: u64,
-    pub overlap: u64,
+    pub verdict: Paper,
     pub bytes: u64,
 }
 
@@ -66,10 +59,9 @@ pub fn marked(m: Marks) -> MarksAnswer
     let t = whole::with_sign(m.t);
     let w = whole::with_sign(m.w);
     let wna = whole::with_sign(m.wna);
+    let verdict = refusal::nothing();
     MarksAnswer {
-        refusal: 0,
-        place: 0,
-        overlap: 0,
+        verdict,
         s,
         t,
         w,
@@ -82,11 +74,9 @@ pub fn marked(m: Marks) -> MarksAnswer
 pub fn unmarked(r: Refusal) -> MarksAnswer
     ensures { λ a. ⌜ a ≡ fromSheet (sheet (Refused r)) ⌝ }
 {
-    let overlap = refusal::overlap(r);
+    let verdict = refusal::told(r);
     MarksAnswer {
-        refusal: refusal::number(r),
-        place: refusal::place(r),
-        overlap,
+        verdict,
         s: 0,
         t: 0,
         w: 0,
@@ -102,45 +92,23 @@ pub fn poop_of(a: question::Answer) -> PoopAnswer
 {
     match a {
         question::Answer::Poop(k) => PoopAnswer {
-            refusal: 0,
-            place: 0,
-            overlap: 0,
+            verdict: refusal::nothing(),
             decimetres: k,
         },
         question::Answer::Refused(r) => PoopAnswer {
-            refusal: refusal::number(r),
-            place: refusal::place(r),
-            overlap: refusal::overlap(r),
+            verdict: refusal::told(r),
             decimetres: 0,
         },
     }
 }
 
-// A verdict's number, place and overlap, 0 where nothing is refused.
-pub fn number_of(v: Verdict) -> u64
-    ensures { λ r. ⌜ r ≡ paper v .number ⌝ }
+// A verdict in the papers' numbers.
+pub fn paper_of(v: Verdict) -> Paper
+    ensures { λ p. ⌜ p ≡ paper v ⌝ }
 {
     match v {
-        Verdict::Accepted => 0,
-        Verdict::Refused(r) => refusal::number(r),
-    }
-}
-
-pub fn place_of(v: Verdict) -> u64
-    ensures { λ r. ⌜ r ≡ paper v .place ⌝ }
-{
-    match v {
-        Verdict::Accepted => 0,
-        Verdict::Refused(r) => refusal::place(r),
-    }
-}
-
-pub fn overlap_of(v: Verdict) -> u64
-    ensures { λ r. ⌜ r ≡ paper v .overlap ⌝ }
-{
-    match v {
-        Verdict::Accepted => 0,
-        Verdict::Refused(r) => refusal::overlap(r),
+        Verdict::Accepted => refusal::nothing(),
+        Verdict::Refused(r) => refusal::told(r),
     }
 }
 

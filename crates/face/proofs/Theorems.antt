@@ -59,22 +59,22 @@ module _ (buf : List ℕ) (x : Ship) (shaped : RoundTrip.Shaped x) (z : writingO
 -- the ship is f, its flags as 0 or 1 and its places beyond n at zero
 pub read-back : (buf : List ℕ) (f : FlatShip) → Shaped f
     → let x = shipFrom f in let p = writingOf (length buf) x in
-    (a : WriteAnswer) → a ≡ fromVerdict p x → a .refusal ≡ 0 → (after : List ℕ) → after ≡ written p x buf
-    → fromReading (readingIn (take (a .bytes) after)) ≡ record { refusal = 0; place = 0; overlap = 0; ship = flatClean f }
+    (a : WriteAnswer) → a ≡ fromVerdict p x → a .verdict .number ≡ 0 → (after : List ℕ) → after ≡ written p x buf
+    → fromReading (readingIn (take (a .bytes) after)) ≡ record { verdict = accepted; ship = flatClean f }
 unfolding fromReading fromVerdict pick
 read-back buf f q a e z after t =
     let x = shipFrom f in
     let s = shaped-from f q in
-    let v : writingOf (length buf) x .number ≡ 0 = sym (ap (λ (r : WriteAnswer). r .refusal) e) ∙ z in
+    let v : writingOf (length buf) x .number ≡ 0 = sym (ap (λ (r : WriteAnswer). r .verdict .number) e) ∙ z in
     let n : a .bytes ≡ recordLength (x .n) = ap (λ (r : WriteAnswer). r .bytes) e ∙ rw v refl in
     rw (n, t, read-what-was-written x s buf (wrote buf x s v), ship-cleaned f (q .six) (good-ship buf x s v)) refl
 
 -- ---- beside a refusal
-pub refused-zero : (s : List ℕ) (a : ReadAnswer) → a ≡ fromReading (readingIn s) → 0 < a .refusal → a .ship ≡ flatZero
+pub refused-zero : (s : List ℕ) (a : ReadAnswer) → a ≡ fromReading (readingIn s) → 0 < a .verdict .number → a .ship ≡ flatZero
 unfolding fromReading readingIn pick
 refused-zero s a e h =
     let p = first (frameLines s ++ shipLines (shipIn s)) in
-    let n : 0 < p .number = omega (arith, ap (λ (r : ReadAnswer). r .refusal) e) in
+    let n : 0 < p .number = omega (arith, ap (λ (r : ReadAnswer). r .verdict .number) e) in
     ap (λ (r : ReadAnswer). r .ship) e ∙ ap shipOf (rw (ne-eqb (p .number) 0 (λ z. omega arith)) refl) ∙ zero-flat
 
 -- ---- what was read is written back
@@ -86,19 +86,19 @@ read-whole s e =
     λ i. record { verdict = v i; ship = readingIn s .ship }
 
 -- the write is accepted, its answer is the record's length, and the buffer holds the record
-pub written-back : (s : List ℕ) → Bytes s → (a : ReadAnswer) → a ≡ fromReading (readingIn s) → a .refusal ≡ 0
+pub written-back : (s : List ℕ) → Bytes s → (a : ReadAnswer) → a ≡ fromReading (readingIn s) → a .verdict .number ≡ 0
     → (buf : List ℕ) → length s ≤ length buf
     → let x = shipFrom (a .ship) in let p = writingOf (length buf) x in
-    (fromVerdict p x ≡ record { refusal = 0; place = 0; overlap = 0; bytes = length s }) × (written p x buf ≡ s ++ drop (length s) buf)
+    (fromVerdict p x ≡ record { verdict = accepted; bytes = length s }) × (written p x buf ≡ s ++ drop (length s) buf)
 unfolding fromReading fromVerdict pick
 written-back s b a e z buf h =
-    let n : readingIn s .verdict .number ≡ 0 = sym (ap (λ (r : ReadAnswer). r .refusal) e) ∙ z in
+    let n : readingIn s .verdict .number ≡ 0 = sym (ap (λ (r : ReadAnswer). r .verdict .number) e) ∙ z in
     let x = readingIn s .ship in
     let same : shipFrom (a .ship) ≡ x = ap (λ (r : ReadAnswer). shipFrom (r .ship)) e ∙ ship-back x in
     let r = read-whole s n in
     let w = write-what-was-read s x b r buf h in
     let l = sym (RoundTrip.length-there s x r) in (
-      ap (λ (y : Ship). fromVerdict (writingOf (length buf) y) y) same ∙ ap (λ (p : Paper). fromVerdict p x) (w .0) ∙ (λ i. record { refusal = 0; place = 0; overlap = 0; bytes = l i }),
+      ap (λ (y : Ship). fromVerdict (writingOf (length buf) y) y) same ∙ ap (λ (p : Paper). fromVerdict p x) (w .0) ∙ (λ i. record { verdict = accepted; bytes = l i }),
       ap (λ (y : Ship). written (writingOf (length buf) y) y buf) same ∙ w .1,
     )
 

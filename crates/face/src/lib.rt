@@ -47,9 +47,7 @@ pub extern "C" fn loadline_read(bytes: &[u8]) -> ReadAnswer
     let v = a.verdict;
     let ship = flat::of_ship(x);
     ReadAnswer {
-        refusal: answers::number_of(v),
-        place: answers::place_of(v),
-        overlap: answers::overlap_of(v),
+        verdict: answers::paper_of(v),
         ship,
     }
 }
@@ -63,9 +61,7 @@ pub extern "C" fn loadline_write(buffer: &mut [u8], ship: FlatShip) -> WriteAnsw
     let x = flat::to_ship(ship);
     let v = writer::write(buffer, x);
     WriteAnswer {
-        refusal: answers::number_of(v),
-        place: answers::place_of(v),
-        overlap: answers::overlap_of(v),
+        verdict: answers::paper_of(v),
         bytes: answers::length_of(v, x.n),
     }
 }

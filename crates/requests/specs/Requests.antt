@@ -20,12 +20,15 @@ use Rattle.trial.specs.Poop.{withPoop}
 use Rattle.question.specs.Question.{Reply, replyIn}
 use Rattle.figures.specs.Figures.{Row, row, one, particulars, forecastle, refusalOf, marksRow, askedRow, house}
 
--- ---- §1: number, place and overlap, of two houses on a ship of 90 m, from aft to fore each
+-- ---- §1: number, place and overlap, of houses on a ship of 90 m, from aft to fore each
 abbrev pub refusalRow : Paper → List ℕ → Row
 refusalRow p stated = row 1 (refusalOf p) stated
 
+abbrev pub listed : List House → Paper
+listed hs = first (houseLines 90000 hs)
+
 abbrev pub two : ℕ → ℕ → ℕ → ℕ → Paper
-two aft fore later end = first (houseLines 90000 (house aft fore 2000 ∷ house later end 2000 ∷ []))
+two aft fore later end = listed (house aft fore 2000 ∷ house later end 2000 ∷ [])
 
 -- sample/twice.record: k2 with its house reported twice
 unfoldable pub r1 : List ℕ
@@ -69,6 +72,8 @@ requests =
     ∷ refusalRow (two 20000 25000 0 10000) (18 ∷ 1 ∷ 0 ∷ [])
     ∷ refusalRow (two 10000 20000 9999 15000) (18 ∷ 1 ∷ 0 ∷ [])
     ∷ refusalRow (two 0 20000 20000 30000) (0 ∷ 0 ∷ 0 ∷ [])
+    ∷ refusalRow (listed (house 0 20000 2000 ∷ house 10000 30000 2000 ∷ house 5000 8000 2000 ∷ [])) (11 ∷ 1 ∷ 10000 ∷ [])
+    ∷ refusalRow (listed (house 20000 30000 2000 ∷ house 10000 15000 2000 ∷ house 14000 18000 2000 ∷ [])) (18 ∷ 1 ∷ 0 ∷ [])
     ∷ refusalRow (readingIn r1 .verdict) (11 ∷ 1 ∷ 10000 ∷ [])
     ∷ refusalRow (writingOf 91 (shipIn r1)) (11 ∷ 1 ∷ 10000 ∷ [])
     ∷ marksRow 1 (sheetIn r1) (11 ∷ 1 ∷ 10000 ∷ 0 ∷ 0 ∷ 0 ∷ 0 ∷ 0 ∷ 0 ∷ [])

@@ -93,11 +93,11 @@ outOfOrder before h = ltb (h .aft .0) (before .aft .0)
 abbrev pub overlapBetween : House → House → ℕ
 overlapBetween before h = min (before .fore .0) (h .fore .0) - h .aft .0
 
--- of a house at place k, if it is bad, and the one before it
+-- of a house at place k, if it is bad, and of the one before it
 abbrev pub orderLinesAt : ℕ → Bool → House → House → List Line
 orderLinesAt k bad before h = (bad && outOfOrder before h, refused 18 k) ∷ (bad, overlapping k (overlapBetween before h)) ∷ []
 
--- 11 or 18: the first bad house decides which is given, and is the place of either
+-- 11 or 18: the first bad house decides which is given, and is the place of either; a list's first house is never bad
 abbrev pub orderLines : ℕ → List House → List Line
 orderLines l hs =
     let k = firstBreach Follows l hs in

@@ -3,16 +3,15 @@ use Prim.Native.Nat.{ℕ}
 use mathlib.Core.Bool.{Bool}
 use mathlib.Core.List.{List, [], _∷_}
 use Rattle.whole.specs.Pick.{pick}
+use Rattle.ship.specs.declared.refusal.Paper as Declared
 use Rattle.ship.specs.declared.refusal.Refusal.{Refusal}
 use Rattle.ship.specs.declared.refusal.Refusal.the-variants.{ShortRecord, Version, ShipType, HouseCount, RecordLength, SpareBit, FieldRange, HalfCertified, HouseExtent, Quarterdeck, Overlap, NoDraught, FreshAllowance, QuestionRange, NoRoomForPoop, NoLengthFits, ShortBuffer, OutOfOrder}
 use Rattle.ship.specs.declared.refusal.Verdict.{Verdict}
 use Rattle.ship.specs.declared.refusal.Verdict.the-variants.{Accepted, Refused}
 
--- a verdict in the papers' own terms; number 0 refuses nothing
-pub record Paper : Type 0 where
-  pub number : ℕ
-  pub place : ℕ
-  pub overlap : ℕ
+-- a verdict in the papers' own terms: number, place and overlap; number 0 refuses nothing
+abbrev pub Paper : Type 0
+Paper = Declared.Paper
 
 abbrev pub accepted : Paper
 accepted = record { number = 0; place = 0; overlap = 0 }
@@ -48,12 +47,6 @@ refusedAs (OutOfOrder k) = refused 18 k
 
 abbrev pub numberOf : Refusal → ℕ
 numberOf r = refusedAs r .number
-
-abbrev pub placeOf : Refusal → ℕ
-placeOf r = refusedAs r .place
-
-abbrev pub overlapOf : Refusal → ℕ
-overlapOf r = refusedAs r .overlap
 
 abbrev pub paper : Verdict → Paper
 paper Accepted = accepted

@@ -2,7 +2,8 @@
 ghost use mathlib.Core.Path.{_≡_};
 ghost use lib.Dec.{eqb};
 ghost use Rattle.whole.specs.Pick.{pick};
-ghost use Rattle.ship.specs.Refusals.{numberOf, placeOf, overlapOf, paper, refusedAs};
+ghost use Rattle.ship.specs.Refusals as Refusals;
+ghost use Rattle.ship.specs.Refusals.{accepted, paper, refusedAs};
 use units::Span;
 
 pub enum Refusal {
@@ -31,81 +32,65 @@ pub enum Verdict {
     Refused(Refusal),
 }
 
-// The papers' number of a refusal.
-pub fn number(r: Refusal) -> u64
-    ensures { λ n. ⌜ n ≡ numberOf r ⌝ }
+// What the papers say of a refusal. The place is the field, counted from 1, or the house, counted from 0, and 0 where there is none; the overlap is in
+// millimetres, 0 where no houses overlap. The number 0 refuses nothing.
+#[repr(C)]
+pub struct Paper {
+    pub number: u64,
+    pub place: u64,
+    pub overlap: u64,
+}
+
+fn refused(number: u64, place: usize) -> Paper
+    ensures { λ p. ⌜ p ≡ Refusals.refused number place ⌝ }
 {
-    match r {
-        Refusal::ShortRecord => 1,
-        Refusal::Version => 2,
-        Refusal::ShipType => 3,
-        Refusal::HouseCount => 4,
-        Refusal::RecordLength => 5,
-        Refusal::SpareBit => 6,
-        Refusal::FieldRange(_) => 7,
-        Refusal::HalfCertified => 8,
-        Refusal::HouseExtent(_) => 9,
-        Refusal::Quarterdeck(_) => 10,
-        Refusal::Overlap(_, _) => 11,
-        Refusal::NoDraught => 12,
-        Refusal::FreshAllowance => 13,
-        Refusal::QuestionRange => 14,
-        Refusal::NoRoomForPoop => 15,
-        Refusal::NoLengthFits => 16,
-        Refusal::ShortBuffer => 17,
-        Refusal::OutOfOrder(_) => 18,
+    Paper {
+        number,
+        place: place as u64,
+        overlap: 0,
     }
 }
 
-// And its place: the field, counted from 1, or the house, counted from 0; 0 where there is none.
-pub fn place(r: Refusal) -> u64
-    ensures { λ n. ⌜ n ≡ placeOf r ⌝ }
+fn overlapping(place: usize, overlap: Span) -> Paper
+    ensures { λ p. ⌜ p ≡ Refusals.overlapping place (overlap .0) ⌝ }
 {
-    match r {
-        Refusal::ShortRecord => 0,
-        Refusal::Version => 0,
-        Refusal::ShipType => 0,
-        Refusal::HouseCount => 0,
-        Refusal::RecordLength => 0,
-        Refusal::SpareBit => 0,
-        Refusal::FieldRange(k) => k as u64,
-        Refusal::HalfCertified => 0,
-        Refusal::HouseExtent(k) => k as u64,
-        Refusal::Quarterdeck(k) => k as u64,
-        Refusal::Overlap(k, _) => k as u64,
-        Refusal::NoDraught => 0,
-        Refusal::FreshAllowance => 0,
-        Refusal::QuestionRange => 0,
-        Refusal::NoRoomForPoop => 0,
-        Refusal::NoLengthFits => 0,
-        Refusal::ShortBuffer => 0,
-        Refusal::OutOfOrder(k) => k as u64,
+    Paper {
+        number: 11,
+        place: place as u64,
+        overlap: overlap.0,
     }
 }
 
-// And the overlap in millimetres; 0 where no houses overlap.
-pub fn overlap(r: Refusal) -> u64
-    ensures { λ n. ⌜ n ≡ overlapOf r ⌝ }
+// What is told where nothing is refused.
+pub fn nothing() -> Paper
+    ensures { λ p. ⌜ p ≡ accepted ⌝ }
+{
+    refused(0, 0)
+}
+
+// A refusal in the papers' numbers: their table, a line for each case.
+pub fn told(r: Refusal) -> Paper
+    ensures { λ p. ⌜ p ≡ refusedAs r ⌝ }
 {
     match r {
-        Refusal::ShortRecord => 0,
-        Refusal::Version => 0,
-        Refusal::ShipType => 0,
-        Refusal::HouseCount => 0,
-        Refusal::RecordLength => 0,
-        Refusal::SpareBit => 0,
-        Refusal::FieldRange(_) => 0,
-        Refusal::HalfCertified => 0,
-        Refusal::HouseExtent(_) => 0,
-        Refusal::Quarterdeck(_) => 0,
-        Refusal::Overlap(_, mm) => mm.0,
-        Refusal::NoDraught => 0,
-        Refusal::FreshAllowance => 0,
-        Refusal::QuestionRange => 0,
-        Refusal::NoRoomForPoop => 0,
-        Refusal::NoLengthFits => 0,
-        Refusal::ShortBuffer => 0,
-        Refusal::OutOfOrder(_) => 0,
+        Refusal::ShortRecord => refused(1, 0),
+        Refusal::Version => refused(2, 0),
+        Refusal::ShipType => refused(3, 0),
+        Refusal::HouseCount => refused(4, 0),
+        Refusal::RecordLength => refused(5, 0),
+        Refusal::SpareBit => refused(6, 0),
+        Refusal::FieldRange(k) => refused(7, k),
+        Refusal::HalfCertified => refused(8, 0),
+        Refusal::HouseExtent(k) => refused(9, k),
+        Refusal::Quarterdeck(k) => refused(10, k),
+        Refusal::Overlap(k, mm) => overlapping(k, mm),
+        Refusal::NoDraught => refused(12, 0),
+        Refusal::FreshAllowance => refused(13, 0),
+        Refusal::QuestionRange => refused(14, 0),
+        Refusal::NoRoomForPoop => refused(15, 0),
+        Refusal::NoLengthFits => refused(16, 0),
+        Refusal::ShortBuffer => refused(17, 0),
+        Refusal::OutOfOrder(k) => refused(18, k),
     }
 }
 

@@ -73,11 +73,11 @@ fn flag(b: bool) {
 
 // Number and place; the overlap for houses that overlap, and no third number for any other refusal.
 pub fn refused(r: Refusal) {
-    named(b"refused", refusal::number(r));
-    next(refusal::place(r));
-    let mm = refusal::overlap(r);
-    if 0 < mm {
-        next(mm);
+    let p = refusal::told(r);
+    named(b"refused", p.number);
+    next(p.place);
+    if 0 < p.overlap {
+        next(p.overlap);
     }
 }
 

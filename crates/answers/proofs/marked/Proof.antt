@@ -23,8 +23,10 @@ marked-spec =
     (λ c κs. search needs)
     (λ c κs. search needs)
     (λ c κs. search needs)
+    (λ c κs. search needs)
     (λ c.
-    let d = c .before in
+    let n = c .before in
+    let d = n .before in
     let w = d .before in
     let t = w .before in
     let s = t .before in
@@ -33,9 +35,7 @@ marked-spec =
     let fe = toZ-ofZ {w = w64} {z = m .f} (record { sfits = c .struct-told .given .1 .1 .1 .1 .0 .1 }) in
     let te = toZ-ofZ {w = w64} {z = m .tf} (record { sfits = c .struct-told .given .1 .1 .1 .1 .1 .0 .1 }) in
     λ i. record {
-      refusal = 0;
-      place = 0;
-      overlap = 0;
+      verdict = n .nothing .ensures i;
       s = back (m .s) (k .s) _ (s .with-sign .ensures) i;
       t = back (m .t) (k .t) _ (t .with-sign2 .ensures) i;
       w = back (m .w) (k .w) _ (w .with-sign3 .ensures) i;

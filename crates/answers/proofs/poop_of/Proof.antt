@@ -11,13 +11,12 @@ poop-of-spec =
     tie.close
     (tie.spec
     (λ c. search needs)
+    (λ c κs. search needs)
     (λ c. search needs)
     (λ c κs. search needs)
-    (λ c κs. search needs)
-    (λ c κs. search needs)
-    (λ c. ap fromReply (sym (ap reply (c .before .a .given .1))))
     (λ c.
-    let p = c .before in
-    let n = p .before in
-    let a = n .before .before in
-    (λ i. record { refusal = n .number .ensures i; place = p .place .ensures i; overlap = c .overlap .ensures i; decimetres = 0 }) ∙ ap fromReply (sym (ap reply (a .a2 .given .1)))))
+    let a = c .before .before in
+    (λ i. record { verdict = c .nothing .ensures i; decimetres = a .a .given .0 .0 }) ∙ ap fromReply (sym (ap reply (a .a .given .1))))
+    (λ c.
+    let a = c .before .before in
+    (λ i. record { verdict = c .told .ensures i; decimetres = 0 }) ∙ ap fromReply (sym (ap reply (a .a2 .given .1)))))

@@ -10,8 +10,5 @@ unmarked-spec =
     tie.close
     (tie.spec
     (λ c κs. search needs)
-    (λ c κs. search needs)
-    (λ c κs. search needs)
     (λ c.
-    let n = c .before in
-    λ i. record { refusal = n .number .ensures i; place = c .place .ensures i; overlap = n .before .overlap .ensures i; s = pos 0; t = pos 0; w = pos 0; wna = pos 0; f = pos 0; tf = pos 0 }))
+    λ i. record { verdict = c .told .ensures i; s = pos 0; t = pos 0; w = pos 0; wna = pos 0; f = pos 0; tf = pos 0 }))

@@ -42,5 +42,5 @@ loadline-marks-spec =
     (c .marked .ensures ∙ ap fromSheet (given a), λ z. rw (c .marked .ensures) h))
     (λ c.
     let a = c .before .before in
-    let n : c .unmarked .result .refusal ≡ numberOf (a .a2 .given .0 .0) = ap (λ (y : MarksAnswer). y .refusal) (c .unmarked .ensures) in
+    let n : c .unmarked .result .verdict .number ≡ numberOf (a .a2 .given .0 .0) = ap (λ (y : MarksAnswer). y .verdict .number) (c .unmarked .ensures) in
     (c .unmarked .ensures ∙ ap fromSheet (refused a), λ z. absurd (omega (arith, number-above-0 (a .a2 .given .0 .0))))))

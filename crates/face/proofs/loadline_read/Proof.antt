@@ -19,11 +19,7 @@ loadline-read-spec =
     let r = c .before in
     subst (λ (x : Ship). NearSheer (x .sheer) × NearHouses (x .houses)) (sym (ap (λ (a : Reading). a .ship) (r .read .ensures))) (near-read (now (r .before .before .args .bytes))))
     (λ c κs. search needs)
-    (λ c κs. search needs)
-    (λ c κs. search needs)
     (λ c.
-    let p = c .before in
-    let n = p .before in
-    let f = n .before in
+    let f = c .before in
     let r = f .before .before in
-    (λ i. record { refusal = n .number-of .ensures i; place = p .place-of .ensures i; overlap = c .overlap-of .ensures i; ship = f .of-ship .ensures i }) ∙ ap fromReading (r .read .ensures)))
+    (λ i. record { verdict = c .paper-of .ensures i; ship = f .of-ship .ensures i }) ∙ ap fromReading (r .read .ensures)))

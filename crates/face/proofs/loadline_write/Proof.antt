@@ -18,24 +18,20 @@ loadline-write-spec =
     (λ c κs. search needs)
     (λ c κs. search needs)
     (λ c κs. search needs)
-    (λ c κs. search needs)
-    (λ c κs. search needs)
     (λ c κs z.
-    let w = c .before .before .before .before .before in
+    let w = c .before .before .before in
     let t = w .before .before in
     few-written (length (now (t .before .before .args .buffer))) (t .to-ship .result) (ap (λ (p : Paper). p .number) (sym (w .write .ensures .0)) ∙ z))
     (λ c. search needs)
     (λ c.
-    let o = c .before in
-    let p = o .before in
-    let n = p .before in
-    let w = n .before .before .before in
+    let p = c .before in
+    let w = p .before .before .before in
     let t = w .before .before in
     let b = now (t .before .before .args .buffer) in
     let x = t .to-ship .result in
     let v = w .write .ensures .0 in
     let e = t .to-ship .ensures in (
-      (λ i. record { refusal = n .number-of .ensures i; place = p .place-of .ensures i; overlap = o .overlap-of .ensures i; bytes = c .length-of .ensures i })
+      (λ i. record { verdict = p .paper-of .ensures i; bytes = c .length-of .ensures i })
           ∙ ap (λ (q : Paper). fromVerdict q x) v
           ∙ ap (λ (y : Ship). fromVerdict (writingOf (length b) y) y) e,
       w .write .ensures .1 ∙ ap (λ (q : Paper). written q x b) v ∙ ap (λ (y : Ship). written (writingOf (length b) y) y b) e,

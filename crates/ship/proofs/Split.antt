@@ -97,7 +97,8 @@ module _ (g h : House) where
   count-both n end order =
       let c = count-same (inBoth g h) (λ j. leb (max (g .aft .0) (h .aft .0)) (0 + j) && leb (0 + j + 1) (min (g .fore .0) (h .fore .0))) n in-both in
       let s = count-between 0 (max (g .aft .0) (h .aft .0)) (min (g .fore .0) (h .fore .0)) n in
-      omega (arith, c, s)
+      let t : count (inBoth g h) n ≡ min (g .fore .0) (h .fore .0) - h .aft .0 = omega (arith, c, s) in
+      sym t
 
 -- ---- the first bad house: it begins abaft the fore end of the one before it
 module _ (l : ℕ) (hs : List House) where

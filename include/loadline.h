@@ -1,7 +1,7 @@
 /*
  * loadline.h: load-line marks that are proved.
  *
- * From a ship record of at most 91 bytes: the six marks of the load-line Convention's Annex I with the 2003 amendments,
+ * From a ship record of at most 91 bytes, of version 1 or 2: the six marks of the load-line Convention's Annex I with the 2003 amendments,
  * or one numbered refusal; the shortest poop for a wished summer mark; a reader and a writer of the record.
  *
  * For x86-64 Linux. Link libloadline.a, or libloadline.so; ./library makes both. They need memcpy and nothing else.
@@ -27,12 +27,14 @@
  *
  *   No.  When                                                              Place                         Calls
  *    1   under 27 bytes                                                                                  M P R
- *    2   version not 1                                                                                   M P R
- *    3   type not 0 or 1                                                                                 M P R W
+ *    2   version 0 or above 2                                                                            M P R
+ *    3   type above 4; above 1 in a record of version 1                                                  M P R W
  *    4   n above 8                                                                                       M P R W
  *    5   length is not 27 + 8n                                                                           M P R
  *    6   a spare bit set                                                                                 M P R
  *    7   a field 1 to 13 outside its range or bits                         lowest such field             M P R W
+ *   22   type B-60 or B-100 of 100 m or less, or portable covers
+ *        beyond 200 m                                                                                    M P R W
  *    8   one of fields 12, 13 zero and not the other                                                     M P R W
  *    9   house: fore end not above aft end, fore end at or below 0,
  *        aft end at or above L, aft end below -20000, fore end
@@ -85,10 +87,28 @@ enum loadline_refusal {
     LOADLINE_NO_ROOM_FOR_POOP = 15,
     LOADLINE_NO_LENGTH_FITS = 16,
     LOADLINE_SHORT_BUFFER = 17,
-    LOADLINE_OUT_OF_ORDER = 18
+    LOADLINE_OUT_OF_ORDER = 18,
+    LOADLINE_LENGTH_FOR_TYPE = 22
 };
 
-/* A record has 27 + 8n bytes for n houses. To take one from a file, read up to LOADLINE_MOST_BYTES + 1 bytes: the one more
+/* What a ship's `kind` may be: its type, as regulation 27 has it. All but A are type B ships, and differ from one another in
+ * the line that they begin from and in the least freeboard alone.
+ *
+ *   Type             The table's freeboard                                        Least S and T   Record version
+ *   A                table 28.1                                                   50 mm           1
+ *   B                table 28.2                                                   50 mm           1
+ *   B-60             B less 60 per cent of B - A, rounded up; L above 100 m       50 mm           2
+ *   B-100            B less all of B - A, which is A; L above 100 m               50 mm           2
+ *   portable covers  B and table 27.1; L to 200 m                                 150 mm          2 */
+enum loadline_kind {
+    LOADLINE_TYPE_A = 0,
+    LOADLINE_TYPE_B = 1,
+    LOADLINE_TYPE_B_60 = 2,
+    LOADLINE_TYPE_B_100 = 3,
+    LOADLINE_TYPE_B_PORTABLE_COVERS = 4
+};
+
+/* A record has 27 + 8n bytes for n houses, in either version. To take one from a file, read up to LOADLINE_MOST_BYTES + 1 bytes: the one more
  * tells a longer file, which is refused, from a record. */
 enum { LOADLINE_LEAST_BYTES = 27, LOADLINE_MOST_BYTES = 91, LOADLINE_MOST_HOUSES = 8 };
 
@@ -104,7 +124,7 @@ typedef struct {
 
 /* A ship. The numbers are those of refusal 7's fields. */
 typedef struct {
-    uint64_t kind;          /* type: 0 A, 1 B */
+    uint64_t kind;          /* type, one of loadline_kind: 0 to 4 */
     uint64_t n;             /* houses, 0 to 8 */
     uint64_t length;        /*  1 L, mm, 24000 to 365000 */
     uint64_t depth;         /*  2 D, depth for freeboard, mm, 1000 to 60000 */
@@ -122,7 +142,8 @@ typedef struct {
 typedef struct {
     uint64_t refusal, place, overlap;
     int64_t s, t, w, wna, f, tf;    /* freeboards, mm: summer, tropical, winter, winter North Atlantic, fresh,
-                                       tropical fresh. s and t are at least 50; f and tf may be negative */
+                                       tropical fresh. s and t are at least 50, with portable covers 150;
+                                       f and tf may be negative */
 } loadline_marks_answer;
 
 typedef struct {
@@ -143,20 +164,24 @@ typedef struct {
 /* In all calls the pointer is to `length` bytes; with length 0 it may be NULL. A record is never changed. */
 
 /* The six marks of a record. S is never below the value worked without rounding, and less than 1.1 mm above it.
- * Refuses 1 to 13 and 18. */
+ * Refuses 1 to 13, 18 and 22. */
 loadline_marks_answer loadline_marks(const uint8_t *record, size_t length);
 
 /* The shortest poop for which the record's ship would have marks with S at most `wish` mm: an enclosed house of `height` mm
  * from the after perpendicular, set before the others, in whole decimetres up to L. Every shorter one has been ruled out.
- * Refuses 1 to 11 and 18, then 14 to 16. The record's own marks need not exist: 12 and 13 are no refusals here. */
+ * It asks by the ship's own type: no mark with portable covers is below 150 mm, so that a smaller wish is refused with 16.
+ * Refuses 1 to 11, 18 and 22, then 14 to 16. The record's own marks need not exist: 12 and 13 are no refusals here. */
 loadline_poop_answer loadline_shortest_poop(const uint8_t *record, size_t length, uint64_t height, uint64_t wish);
 
-/* The ship of a record. Writing it gives the same bytes back. Refuses 1 to 11 and 18. */
+/* The ship of a record of version 1 or 2. Writing it gives the same bytes back where the record is in the lowest version that
+ * holds the ship, which is 1 for types A and B; otherwise it gives a record of that version, which reads as the same ship.
+ * Refuses 1 to 11, 18 and 22. */
 loadline_read_answer loadline_read(const uint8_t *record, size_t length);
 
-/* Writes the ship's record at the buffer's start. Reading it gives the ship back. Places beyond n are ignored. An accepted
- * write changes the first `bytes` bytes only, a refused one none. A number too big for the record is refused as any other
- * outside its range. Refuses 3, 4, 7 to 11, 18 and 17; 17 comes last, so that a short buffer hides no fault of the ship. */
+/* Writes the ship's record at the buffer's start, in the lowest version that holds the ship. Reading it gives the ship back.
+ * Places beyond n are ignored. An accepted write changes the first `bytes` bytes only, a refused one none. A number too big
+ * for the record is refused as any other outside its range. Refuses 3, 4, 7 to 11, 18, 22 and 17; 17 comes last, so that a
+ * short buffer hides no fault of the ship. */
 loadline_write_answer loadline_write(uint8_t *buffer, size_t length, loadline_ship ship);
 
 #ifdef __cplusplus

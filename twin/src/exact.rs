@@ -6,7 +6,7 @@
 use crate::big::{over, whole, Fraction};
 use crate::marks;
 use crate::record::{House, Kind, Ship};
-use crate::table28;
+use crate::{table27, table28};
 
 /// The exact freeboards, mm, and E.
 #[derive(Clone, Debug)]
@@ -17,7 +17,7 @@ pub struct Exact {
     pub corrected: Fraction,
     /// From the bow height of regulation 39.
     pub bow: Fraction,
-    /// The greater of the two, and at least 50 (40).
+    /// The greater of the two, and at least 50, with portable covers 150 (40).
     pub summer: Fraction,
 }
 
@@ -26,7 +26,7 @@ pub struct Exact {
 pub struct Cost {
     /// The mark above the exact value, its round-up to mm included.
     pub mark: f64,
-    /// The freeboard in um, before that round-up and before the floor of 50 mm.
+    /// The freeboard in um, before that round-up and before the floor.
     pub summer: f64,
     /// The corrected value alone.
     pub corrected: f64,
@@ -57,7 +57,8 @@ pub fn exact(ship: &Ship) -> Exact {
     let corrected = deep - houses_deduction(ship, &l, &e) - sheer_deduction(ship, &l, &s);
     let bow = bow_freeboard(ship, &l);
     // 40
-    let summer = corrected.clone().max(bow.clone()).max(whole(50));
+    let least = if ship.kind == Kind::Covers { whole(150) } else { whole(50) };
+    let summer = corrected.clone().max(bow.clone()).max(least);
     Exact { effective: e, corrected, bow, summer }
 }
 
@@ -74,22 +75,32 @@ fn limited_cb(ship: &Ship) -> Fraction {
     over(ship.cb.min(10_000), 10_000)
 }
 
-/// 28
+/// 27 and 28: the type's line.
 fn tabular(ship: &Ship, l: &Fraction) -> Fraction {
-    let rows = match ship.kind {
-        Kind::A => &table28::TYPE_A,
-        Kind::B => &table28::TYPE_B,
-    };
-    let row = (ship.length / 1000) as usize - table28::FIRST;
-    let points: Vec<_> = (row..table28::ROWS.min(row + 2))
-        .map(|i| (whole((table28::FIRST + i) as i64), whole(rows[i])))
+    let a = between_rows(l, &table28::TYPE_A, table28::FIRST);
+    let b = between_rows(l, &table28::TYPE_B, table28::FIRST);
+    match ship.kind {
+        Kind::A => a,
+        Kind::B => b,
+        Kind::B60 => &b - over(60, 100) * (&b - &a),
+        Kind::B100 => &b - whole(1) * (&b - &a),
+        Kind::Covers => b + between_rows(l, &table27::INCREASE, table27::FIRST),
+    }
+}
+
+/// Linear between the rows about L, m; the first row counts for every shorter ship.
+fn between_rows(l: &Fraction, rows: &[u16], first: usize) -> Fraction {
+    let metres = |row: usize| whole((first + row) as i64);
+    let above = (0..rows.len()).find(|&row| metres(row) > *l).unwrap_or(rows.len());
+    let points: Vec<_> = (above.saturating_sub(1)..rows.len().min(above + 1))
+        .map(|row| (metres(row), whole(rows[row])))
         .collect();
     linear(l, &points)
 }
 
 /// 29
 fn short_b_addition(ship: &Ship, l: &Fraction, e: &Fraction) -> Fraction {
-    if ship.kind == Kind::B && *l < whole(100) && *e < over(35, 100) * l {
+    if ship.kind != Kind::A && *l < whole(100) && *e < over(35, 100) * l {
         over(75, 10) * (whole(100) - l) * (over(35, 100) - e / l)
     } else {
         whole(0)
@@ -123,7 +134,7 @@ fn depth_correction(ship: &Ship, l: &Fraction) -> Fraction {
 fn houses_deduction(ship: &Ship, l: &Fraction, e: &Fraction) -> Fraction {
     let long_enough =
         forecastle(ship).is_some_and(|house| effective_length(house, l) >= over(7, 100) * l);
-    if ship.kind == Kind::B && !long_enough {
+    if ship.kind != Kind::A && !long_enough {
         return whole(0);
     }
     let full = [(24, 350), (85, 860), (122, 1070)].map(|(at, mm)| (whole(at), whole(mm)));

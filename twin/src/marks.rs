@@ -7,7 +7,7 @@ use std::fmt;
 
 use crate::record::{House, Kind, Ship};
 use crate::refusal::Refusal;
-use crate::table28;
+use crate::{table27, table28};
 
 /// The six marks, mm below the deck line. The two fresh water marks may be negative.
 #[derive(Clone, Copy, Debug, PartialEq, Eq)]
@@ -44,7 +44,7 @@ pub struct Steps {
     pub effective: i64,
     /// The house that is the forecastle.
     pub forecastle: Option<usize>,
-    /// Regulation 28.
+    /// Regulations 27 and 28: the type's line.
     pub table: i64,
     /// Regulation 29.
     pub short_b: i64,
@@ -93,7 +93,7 @@ pub fn marks(ship: &Ship) -> Result<Marks, Refusal> {
         immersion => down(25 * ship.displacement, immersion),
     };
     Refusal::unless(allowance <= draught, Refusal::FRESH_ALLOWANCE)?;
-    let tropical = (summer - down(draught, 48)).max(50); // 40(3), 40(4)
+    let tropical = (summer - down(draught, 48)).max(floor(ship.kind)); // 40(3), 40(4)
     let winter = summer + up(draught, 48); // 40(5)
     Ok(Marks {
         summer,
@@ -123,7 +123,7 @@ pub fn steps(ship: &Ship) -> Steps {
     let corrected = fullness + depth - depth_reduction - deduction + sheer_added - sheer_deducted;
     let bow_height = bow_height(ship, length);
     let bow = bow_height - bow_credit(ship, forecastle);
-    let summer = up(corrected.max(bow), 1000).max(50);
+    let summer = up(corrected.max(bow), 1000).max(floor(ship.kind));
     Steps {
         covered,
         effective,
@@ -190,21 +190,44 @@ fn effective_sum(ship: &Ship, length: i64) -> i64 {
     part(false) + part(true)
 }
 
-/// Regulation 28: row value, linear between rows; exact.
-pub fn tabular(kind: Kind, length: i64) -> i64 {
-    let rows = match kind {
-        Kind::A => &table28::TYPE_A,
-        Kind::B => &table28::TYPE_B,
-    };
-    let row = (length / 1000) as usize - table28::FIRST;
+/// Regulation 40(2) and (4): the least summer and tropical mark, mm.
+pub fn floor(kind: Kind) -> i64 {
+    match kind {
+        Kind::Covers => 150,
+        _ => 50,
+    }
+}
+
+/// Row value, linear between rows; exact. The first row's length is in m.
+fn between_rows(rows: &[u16], first: usize, length: i64) -> i64 {
+    let row = (length / 1000) as usize - first;
     let value = i64::from(rows[row]);
-    let next = i64::from(rows[(row + 1).min(table28::ROWS - 1)]);
+    let next = i64::from(rows[(row + 1).min(rows.len() - 1)]);
     1000 * value + (next - value) * (length % 1000)
+}
+
+/// Regulations 27 and 28: the type's line, exact but for B-60, which is rounded up.
+pub fn tabular(kind: Kind, length: i64) -> i64 {
+    let a = || between_rows(&table28::TYPE_A, table28::FIRST, length);
+    let b = || between_rows(&table28::TYPE_B, table28::FIRST, length);
+    match kind {
+        Kind::A | Kind::B100 => a(),
+        Kind::B => b(),
+        Kind::B60 => up(2 * b() + 3 * a(), 5), // B - 60% of (B - A)
+        Kind::Covers => b() + increase(length),
+    }
+}
+
+/// Regulation 27(6): table 27.1, the same up to 108 m, linear between rows; exact. No ship that comes
+/// here is beyond the last row.
+pub fn increase(length: i64) -> i64 {
+    let length = length.clamp(1000 * table27::FIRST as i64, 1000 * table27::LAST as i64);
+    between_rows(&table27::INCREASE, table27::FIRST, length)
 }
 
 /// Regulation 29: 7.5 (100 - L) (0.35 - E/L), up.
 fn short_b_addition(kind: Kind, length: i64, effective: i64) -> i64 {
-    if kind == Kind::B && length < 100_000 && effective < 350 * length {
+    if !kind.is_a() && length < 100_000 && effective < 350 * length {
         up(3 * (100_000 - length) * (350 * length - effective), 400 * length)
     } else {
         0
@@ -284,7 +307,7 @@ fn houses_deduction(ship: &Ship, length: i64, effective: i64, forecastle: Option
         let (um, standard) = effective_length(&ship.houses[place], length);
         um >= 70 * length * standard
     });
-    if ship.kind == Kind::A || long_enough {
+    if ship.kind.is_a() || long_enough {
         down(full_deduction(length) * deduction_share(length, effective), 1_000_000)
     } else {
         0

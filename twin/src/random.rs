@@ -1,6 +1,6 @@
 //! Random ships from a seed, the same ones on every machine.
 
-use crate::marks::standard_height;
+use crate::marks::{self, standard_height};
 use crate::record::{House, RawShip};
 
 /// A small generator (splitmix64).
@@ -35,31 +35,65 @@ impl Random {
         from[self.between(0, from.len() as i64 - 1) as usize]
     }
 
-    /// A valid ship with `n` houses, one time in three a low one.
+    /// A valid ship of any of the five types with `n` houses. One in three is a low one, one in eight
+    /// has its mark about the floor.
     pub fn any_ship(&mut self, n: usize) -> RawShip {
-        if self.once_in(3) {
-            self.low_ship(n)
-        } else {
-            self.ship(n)
+        let kind = self.kind();
+        match self.between(1, 24) {
+            1..=3 => self.ship_at_floor(kind, n),
+            4..=11 => self.low_ship_of(Some(kind), n),
+            _ => self.ship_of(kind, n),
         }
     }
 
-    /// A valid ship with `n` houses: borders of the rules often, anything else besides.
+    /// The number of a type; types 2 to 4 more often than A and B.
+    pub fn kind(&mut self) -> u64 {
+        self.pick(&[0, 1, 1, 2, 2, 3, 4, 4])
+    }
+
+    /// A valid ship of type A or B with `n` houses: borders of the rules often, anything else besides.
     pub fn ship(&mut self, n: usize) -> RawShip {
         loop {
-            let raw = self.attempt(n);
+            let raw = self.attempt(None, n);
             if raw.check().is_ok() {
                 return raw;
             }
         }
     }
 
-    /// A valid ship with `n` houses and D below L/15, seldom at it. Most often a house stands from
-    /// about 0.2 L to about 0.8 L or beyond; the bow height seldom decides, lest it hide what that is
-    /// worth.
-    pub fn low_ship(&mut self, n: usize) -> RawShip {
+    /// The same of this type, its length often at a border of its line.
+    pub fn ship_of(&mut self, kind: u64, n: usize) -> RawShip {
         loop {
-            let mut raw = self.attempt(n);
+            let length = self.length_of(kind);
+            let raw = self.attempt(Some((kind, length)), n);
+            if raw.check().is_ok() {
+                return raw;
+            }
+        }
+    }
+
+    /// A valid type B ship of this length with `n` houses.
+    pub fn ship_of_length(&mut self, length: i64, n: usize) -> RawShip {
+        loop {
+            let raw = self.attempt(Some((1, length)), n);
+            if raw.check().is_ok() {
+                return raw;
+            }
+        }
+    }
+
+    /// A valid ship of type A or B with `n` houses and D below L/15, seldom at it. Most often a house
+    /// stands from about 0.2 L to about 0.8 L or beyond; the bow height seldom decides, lest it hide
+    /// what that is worth.
+    pub fn low_ship(&mut self, n: usize) -> RawShip {
+        self.low_ship_of(None, n)
+    }
+
+    /// The same of this type, if one is given.
+    pub fn low_ship_of(&mut self, kind: Option<u64>, n: usize) -> RawShip {
+        loop {
+            let given = kind.map(|kind| (kind, self.length_of(kind)));
+            let mut raw = self.attempt(given, n);
             if self.once_in(4) {
                 // L/15, 0.2 L and 0.8 L are whole mm, and 0.8 L is whole dm.
                 raw.length -= raw.length % 375;
@@ -81,16 +115,98 @@ impl Random {
         }
     }
 
-    fn attempt(&mut self, n: usize) -> RawShip {
+    /// A valid ship of this type with `n` houses whose summer or tropical mark is at the floor of its
+    /// type, at that of another, or within 2 mm of either. With no house it is any ship.
+    pub fn ship_at_floor(&mut self, kind: u64, n: usize) -> RawShip {
+        // Some lengths and houses have no depth for it.
+        for _ in 0..24 {
+            let length = self.length_of(kind);
+            let mut raw = self.attempt(Some((kind, length)), n);
+            self.lower_bow(&mut raw);
+            raw.cb = self.between(6_000, 7_500) as u64;
+            self.put_long_houses(&mut raw.houses[..n], length);
+            let floor = self.pick(&[50, 150]) + self.between(-2, 2);
+            if let Some(depth) = self.depth_for(&raw, floor) {
+                raw.depth = depth;
+                return raw;
+            }
+        }
+        self.ship_of(kind, n)
+    }
+
+    /// Houses over nearly all of the length, the last one most often a forecastle.
+    fn put_long_houses(&mut self, houses: &mut [House], length: i64) {
+        if let [only] = houses {
+            *only = self.middle_house(0, length, length);
+        } else if let [first, rest @ ..] = houses {
+            let cut = self.between(length / 2, length * 93 / 100);
+            *first = self.middle_house(0, cut, length);
+            self.put_row(rest, cut, length, length);
+            if let Some(last) = rest.last_mut() {
+                last.fore = length;
+            }
+        }
+    }
+
+    /// A depth for which S, or T, comes to so many mm or just above before the floor.
+    fn depth_for(&mut self, raw: &RawShip, mm: i64) -> Option<u64> {
+        let tropical = self.once_in(2);
+        let comes_to = |depth: i64| {
+            let ship = RawShip { depth: depth as u64, ..raw.clone() }.check().ok()?;
+            let steps = marks::steps(&ship);
+            let summer = steps.corrected.max(steps.bow).div_euclid(1000);
+            Some(if tropical { summer - (depth - summer).div_euclid(48) } else { summer })
+        };
+        // Either rises with the depth, as long as the rate is above 1/49.
+        let (mut low, mut high) = (1_000, 30_000);
+        if comes_to(low)? > mm || comes_to(high)? < mm {
+            return None;
+        }
+        while high - low > 1 {
+            let middle = (low + high) / 2;
+            match comes_to(middle)? < mm {
+                true => low = middle,
+                false => high = middle,
+            }
+        }
+        Some(high as u64)
+    }
+
+    /// A length of this type: often where refusal 22 or a table's rule begins or ends, or between two
+    /// rows, at times one that 22 takes.
+    pub fn length_of(&mut self, kind: u64) -> i64 {
+        const METRES: [i64; 9] = [24, 75, 85, 100, 108, 109, 120, 199, 200];
+        if kind < 2 && !self.once_in(3) {
+            return self.length();
+        }
+        let most = if kind == 4 { 200_000 } else { 365_000 };
+        let least = if kind == 2 || kind == 3 { 100_001 } else { 24_000 };
+        match self.between(1, 8) {
+            1 => 1000 * self.pick(&METRES) + self.between(-1, 1),
+            2 => 108_000 + self.between(0, 1_000),
+            3 => 1000 * self.between(least / 1000 + 1, most / 1000),
+            4 => self.between(least, 125_000),
+            5 => self.between(100_000, 130_000),
+            _ => self.between(least, most),
+        }
+    }
+
+    /// Any length, often where a rule for all types changes.
+    fn length(&mut self) -> i64 {
         const LENGTHS: [i64; 12] = [
             24_000, 30_000, 75_000, 85_000, 99_999, 100_000, 120_000, 122_000, 125_000, 61_500,
             364_999, 365_000,
         ];
-        let length = match self.between(1, 6) {
+        match self.between(1, 6) {
             1 => self.pick(&LENGTHS),
             2 | 3 => self.between(24_000, 125_000),
             _ => self.between(24_000, 365_000),
-        };
+        }
+    }
+
+    /// A ship that need not be valid, of type A or B and any length if none is given.
+    fn attempt(&mut self, given: Option<(u64, i64)>, n: usize) -> RawShip {
+        let length = given.map_or_else(|| self.length(), |(_, length)| length);
         let depth = match self.between(1, 4) {
             1 => self.between(1_000, 60_000),
             2 => (length / 15 + self.between(-2, 2)).max(1_000),
@@ -99,7 +215,7 @@ impl Random {
         let moulded = if self.once_in(2) { depth } else { self.between(1_000, 60_000) };
         let certified = self.once_in(2);
         let mut raw = RawShip {
-            kind: self.between(0, 1) as u64,
+            kind: given.map_or_else(|| self.between(0, 1) as u64, |(kind, _)| kind),
             n: n as u64,
             length: length as u64,
             depth: depth as u64,

@@ -1,21 +1,88 @@
-//! The ship record, version 1: 27 bytes, then 8 for each house, bit-packed.
+//! The ship record, versions 1 and 2: 27 bytes, then 8 for each house, bit-packed. The versions differ
+//! in the header's first two bytes alone: version 2 has one more bit for the type and one fewer spare.
 
 use std::ops::{Deref, DerefMut};
 
 use crate::bits::{BitReader, BitWriter};
 use crate::refusal::Refusal;
 
-pub const VERSION: u64 = 1;
 /// Most houses a ship holds.
 pub const MAX_HOUSES: usize = 8;
 pub const HEADER_BYTES: usize = 27;
 pub const HOUSE_BYTES: usize = 8;
 
-/// Type of ship; the number is the one in the record.
+/// Type of ship; the number is the one in the record. All but A are type B in every rule that does
+/// not name them.
 #[derive(Clone, Copy, Debug, PartialEq, Eq)]
 pub enum Kind {
     A = 0,
     B = 1,
+    /// B less 60 per cent of the difference from A (27(9)).
+    B60 = 2,
+    /// B less all of the difference from A (27(10)).
+    B100 = 3,
+    /// B with portable covers in position 1 (27(6)).
+    Covers = 4,
+}
+
+impl Kind {
+    pub const ALL: [Kind; 5] = [Kind::A, Kind::B, Kind::B60, Kind::B100, Kind::Covers];
+
+    /// The kind with this number, if there is one.
+    pub fn of(number: u64) -> Option<Kind> {
+        Kind::ALL.into_iter().find(|&kind| kind as u64 == number)
+    }
+
+    pub fn is_a(self) -> bool {
+        self == Kind::A
+    }
+
+    /// 27: a reduced ship is above 100 m; table 27.1 ends at 200 m.
+    fn has_length(self, length: u64) -> bool {
+        match self {
+            Kind::A | Kind::B => true,
+            Kind::B60 | Kind::B100 => length > 100_000,
+            Kind::Covers => length <= 200_000,
+        }
+    }
+}
+
+/// How the header begins: the bits for version, type, number of houses and spare make two bytes.
+#[derive(Clone, Copy, Debug, PartialEq, Eq)]
+pub enum Version {
+    One = 1,
+    Two = 2,
+}
+
+impl Version {
+    /// The version with this number, if there is one.
+    pub fn of(number: u64) -> Option<Version> {
+        [Version::One, Version::Two].into_iter().find(|&version| version as u64 == number)
+    }
+
+    /// The lowest version that holds a ship of this type.
+    pub fn lowest(kind: u64) -> Version {
+        match kind {
+            0 | 1 => Version::One,
+            _ => Version::Two,
+        }
+    }
+
+    /// Bits of the type, and spare ones.
+    pub fn widths(self) -> (usize, usize) {
+        match self {
+            Version::One => (2, 6),
+            Version::Two => (3, 5),
+        }
+    }
+
+    /// The greatest type.
+    fn last_kind(self) -> u64 {
+        match self {
+            Version::One => 1,
+            Version::Two => 4,
+        }
+    }
 }
 
 /// A house on the freeboard deck. Stations in mm forward of the after perpendicular.
@@ -91,7 +158,7 @@ pub struct RawShip {
     pub houses: [House; MAX_HOUSES],
 }
 
-/// A ship that passed refusals 3, 4, 7 to 11 and 18.
+/// A ship that passed refusals 3, 4, 7 to 11, 18 and 22.
 #[derive(Clone, Debug, PartialEq, Eq)]
 pub struct Ship {
     pub kind: Kind,
@@ -111,15 +178,16 @@ pub fn record_bytes(n: usize) -> usize {
     HEADER_BYTES + HOUSE_BYTES * n
 }
 
-/// Reads a record: refusals 1 to 11 and 18.
+/// Reads a record of either version: refusals 1 to 11, 18 and 22.
 pub fn read(bytes: &[u8]) -> Result<Ship, Refusal> {
     Refusal::unless(bytes.len() >= HEADER_BYTES, Refusal::SHORT_RECORD)?;
     let mut header = BitReader::new(&bytes[..HEADER_BYTES]);
-    let version = header.take(4);
-    let kind = header.take(2);
+    let version = Version::of(header.take(4)).ok_or(Refusal::at(Refusal::VERSION, 0))?;
+    let (kind_bits, spare_bits) = version.widths();
+    let kind = header.take(kind_bits);
     let n = header.take(4);
-    let mut spare = header.take(6);
-    Refusal::unless(version == VERSION, Refusal::VERSION)?;
+    let mut spare = header.take(spare_bits);
+    Refusal::unless(kind <= version.last_kind(), Refusal::KIND)?;
     let (_, count) = kind_and_count(kind, n)?;
     Refusal::unless(bytes.len() == record_bytes(count), Refusal::RECORD_LENGTH)?;
 
@@ -152,8 +220,9 @@ pub fn read(bytes: &[u8]) -> Result<Ship, Refusal> {
     raw.check()
 }
 
-/// Writes a ship: refusals 3, 4, 7 to 11 and 18, and 17 last. Gives the record's length. A refusal
-/// changes no byte; an accepted write changes the record's bytes only.
+/// Writes a ship in the lowest version that holds it: refusals 3, 4, 7 to 11, 18 and 22, and 17 last.
+/// Gives the record's length. A refusal changes no byte; an accepted write changes the record's bytes
+/// only.
 pub fn write(buffer: &mut [u8], raw: &RawShip) -> Result<usize, Refusal> {
     let (_, count) = raw.check_all()?;
     let length = record_bytes(count);
@@ -162,14 +231,21 @@ pub fn write(buffer: &mut [u8], raw: &RawShip) -> Result<usize, Refusal> {
     Ok(length)
 }
 
-/// Puts the fields' low bits in their places, unchecked. The record is 27+8n bytes.
+/// Puts the fields' low bits in their places in the lowest version, unchecked. The record is 27+8n
+/// bytes.
 pub fn pack(record: &mut [u8], raw: &RawShip) {
+    pack_as(Version::lowest(raw.kind), record, raw);
+}
+
+/// The same in this version, which need not hold the ship.
+pub fn pack_as(version: Version, record: &mut [u8], raw: &RawShip) {
     let (header, houses) = record.split_at_mut(HEADER_BYTES);
+    let (kind_bits, spare_bits) = version.widths();
     let mut fields = BitWriter::new(header);
-    fields.put(4, VERSION);
-    fields.put(2, raw.kind);
+    fields.put(4, version as u64);
+    fields.put(kind_bits, raw.kind);
     fields.put(4, raw.n);
-    fields.put(6, 0);
+    fields.put(spare_bits, 0);
     fields.put(20, raw.length);
     fields.put(16, raw.depth);
     fields.put(16, raw.moulded);
@@ -192,7 +268,7 @@ pub fn pack(record: &mut [u8], raw: &RawShip) {
 }
 
 impl RawShip {
-    /// The ship, if it passes refusals 3, 4, 7 to 11 and 18.
+    /// The ship, if it passes refusals 3, 4, 7 to 11, 18 and 22.
     pub fn check(&self) -> Result<Ship, Refusal> {
         let (kind, count) = self.check_all()?;
         // All fields are below 2^20 by now.
@@ -210,10 +286,11 @@ impl RawShip {
         })
     }
 
-    /// Refusals 3, 4, 7 to 11 and 18; what numbers that pass say of the kind and the houses.
+    /// Refusals 3, 4, 7, 22, 8 to 11 and 18; what numbers that pass say of the kind and the houses.
     fn check_all(&self) -> Result<(Kind, usize), Refusal> {
         let (kind, count) = kind_and_count(self.kind, self.n)?;
         self.check_fields()?;
+        Refusal::unless(kind.has_length(self.length), Refusal::KIND_LENGTH)?;
         let certified = (self.displacement != 0, self.immersion != 0);
         Refusal::unless(certified.0 == certified.1, Refusal::HALF_CERTIFIED)?;
         check_houses(self.length as i64, &self.houses[..count])?;
@@ -257,11 +334,7 @@ impl Ship {
 
 /// Refusals 3 and 4.
 fn kind_and_count(kind: u64, n: u64) -> Result<(Kind, usize), Refusal> {
-    let kind = match kind {
-        0 => Kind::A,
-        1 => Kind::B,
-        _ => return Err(Refusal::at(Refusal::KIND, 0)),
-    };
+    let kind = Kind::of(kind).ok_or(Refusal::at(Refusal::KIND, 0))?;
     Refusal::unless(n <= MAX_HOUSES as u64, Refusal::TOO_MANY_HOUSES)?;
     Ok((kind, n as usize))
 }

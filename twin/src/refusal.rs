@@ -1,5 +1,5 @@
-//! The eighteen refusals. The order of their numbers is the order of the checks, but for 18: it
-//! stands where 11 does, and one check gives either.
+//! The nineteen refusals, 1 to 18 and 22. The order of their numbers is the order of the checks, but
+//! for two: 18 stands where 11 does, and one check gives either; 22 stands between 7 and 8.
 
 use std::fmt;
 
@@ -32,6 +32,7 @@ impl Refusal {
     pub const NOTHING_FITS: u8 = 16;
     pub const SHORT_BUFFER: u8 = 17;
     pub const OUT_OF_ORDER: u8 = 18;
+    pub const KIND_LENGTH: u8 = 22;
 
     /// A refusal at a named place: a field from 1, or a house from 0.
     pub fn at(number: u8, place: usize) -> Refusal {

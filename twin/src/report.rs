@@ -3,24 +3,35 @@
 use std::fmt::Write;
 
 use crate::record::{self, House, RawShip, Ship, MAX_HOUSES};
+use crate::refusal::Refusal;
 
 /// What a buffer holds before a write.
 const FILL: u8 = 0xa5;
 /// Buffer that a ship just read is written back into.
 const BUFFER: usize = 128;
 
-/// One line on a record: the refusal, or the ship and whether writing it gives the record back.
+/// One line on a record: the refusal, or the ship, and that writing it gives the record back or what
+/// it gives instead.
 pub fn record_line(bytes: &[u8]) -> String {
     match record::read(bytes) {
         Err(refusal) => refusal.to_string(),
-        Ok(ship) => {
-            let end = if comes_back(&ship, bytes) { "back" } else { "changed" };
-            format!("{} {end}", ship_line(&ship))
-        }
+        Ok(ship) => format!("{} {}", ship_line(&ship), ending(bytes, &written_back(&ship))),
     }
 }
 
-fn ship_line(ship: &Ship) -> String {
+/// `back`, or `as` and the other record in hex.
+pub fn ending(bytes: &[u8], written: &[u8]) -> String {
+    match written == bytes {
+        true => "back".to_string(),
+        false => format!("as {}", hex(written)),
+    }
+}
+
+pub fn hex(bytes: &[u8]) -> String {
+    bytes.iter().map(|byte| format!("{byte:02x}")).collect()
+}
+
+pub fn ship_line(ship: &Ship) -> String {
     let [a, b, c, d, e, f] = ship.sheer;
     let mut line = format!(
         "type {} L {} D {} M {} Cb {} Cwf {} sheer {a} {b} {c} {d} {e} {f} certified {} {} houses {}",
@@ -41,12 +52,12 @@ fn ship_line(ship: &Ship) -> String {
     line
 }
 
-/// Writing the ship gives the same bytes, and leaves the rest of the buffer as it was.
-fn comes_back(ship: &Ship, bytes: &[u8]) -> bool {
+/// The record of a ship that was read. The rest of the buffer stays as it was.
+fn written_back(ship: &Ship) -> Vec<u8> {
     let mut buffer = [FILL; BUFFER];
-    record::write(&mut buffer, &ship.raw()) == Ok(bytes.len())
-        && buffer[..bytes.len()] == *bytes
-        && buffer[bytes.len()..].iter().all(|&byte| byte == FILL)
+    let length = record::write(&mut buffer, &ship.raw()).expect("a ship that was read is sound");
+    assert!(buffer[length..].iter().all(|&byte| byte == FILL));
+    buffer[..length].to_vec()
 }
 
 /// A write to be tried: how long the buffer is, and the ship.
@@ -110,17 +121,19 @@ impl Trial {
 
     /// One line on the write: `written` or the refusal, then the whole buffer in hex.
     pub fn line(&self) -> String {
+        self.line_by(|buffer, ship| record::write(buffer, ship))
+    }
+
+    /// The same of another writer.
+    pub fn line_by<W>(&self, write: W) -> String
+    where
+        W: Fn(&mut [u8], &RawShip) -> Result<usize, Refusal>,
+    {
         let mut buffer = vec![FILL; self.buffer as usize];
-        let mut line = match record::write(&mut buffer, &self.ship) {
+        let line = match write(&mut buffer, &self.ship) {
             Ok(_) => "written".to_string(),
             Err(refusal) => refusal.to_string(),
         };
-        if !buffer.is_empty() {
-            line.push(' ');
-        }
-        for byte in buffer {
-            let _ = write!(line, "{byte:02x}");
-        }
-        line
+        format!("{line} {}", hex(&buffer)).trim_end().to_string()
     }
 }

@@ -1,13 +1,16 @@
-// Checks 7 and 8, on a ship's fields.
+// Checks 7, 22 and 8, on a ship's fields and its type.
+ghost use mathlib.Core.Bool.{_||_};
 ghost use mathlib.Core.Path.{_≡_};
 ghost use Prim.Native.Nat.{_≤_};
 ghost use Rattle.ship.specs.Refusals.{paper, first};
-ghost use Rattle.ship.specs.Checks.{fieldsOf, fieldOut, fieldLines};
+ghost use Rattle.ship.specs.Checks.{fieldsOf, fieldOut, reducedShort, coversLong, fieldLines};
 use ship::Ship;
+use ship::kind;
 use ship::refusal;
 use ship::refusal::Refusal;
 use ship::refusal::Verdict;
 use units::LIFT;
+use units::Span;
 
 // The highest lifted ordinate of fourteen bits: 8191 mm of sheer.
 const HIGHEST: u64 = 2 * LIFT - 1;
@@ -70,13 +73,30 @@ fn field_out(fields: [u64; 13]) -> usize
     k
 }
 
-// Checks 7 and 8, from the table's last line up. Fields are counted from 1.
+// What regulation 27 sets a type by its length, in mm: one of reduced freeboard must be above the first, and table 27.1 ends with the second.
+const REDUCED_ABOVE: u64 = 100000;
+
+const COVERS_TO: u64 = 200000;
+
+// Whether the type does not admit the length.
+fn unfit_length(kind: u64, l: Span) -> bool
+    ensures { λ r. ⌜ r ≡ (reducedShort kind (l .0) || coversLong kind (l .0)) ⌝ }
+{
+    let mm = l.0;
+    let reduced = (kind == kind::B_60) | (kind == kind::B_100);
+    let covers = kind == kind::PORTABLE_COVERS;
+    (reduced & (mm <= REDUCED_ABOVE)) | (covers & (COVERS_TO < mm))
+}
+
+// Checks 7, 22 and 8, from the table's last line up. Fields are counted from 1.
 pub fn of_fields(x: Ship) -> Verdict
     ensures { λ v. ⌜ paper v ≡ first (fieldLines x) ⌝ }
 {
     let k = field_out(fields(x));
     let field = k + 1;
     let half = (x.displacement == 0) != (x.immersion == 0);
+    let unfit = unfit_length(x.kind, x.length);
     let v = refusal::line(half, Refusal::HalfCertified, Verdict::Accepted);
+    let v = refusal::line(unfit, Refusal::LengthForType, v);
     refusal::line(k < 13, Refusal::FieldRange(field), v)
 }

@@ -16,7 +16,8 @@ use Rattle.ship.specs.declared.rule.Rule.{Rule}
 use Rattle.ship.specs.declared.rule.Rule.the-variants.{EndsAndHeight, RaisedQuarterdeck, Follows}
 use Rattle.ship.specs.Vessel.{housesOf, houseAt}
 use Rattle.ship.specs.Refusals.{Paper, first}
-use Rattle.ship.specs.Checks.{least, most, outside, fieldsOf, fieldOut, badEnds, badQuarterdeck, foreBefore, breaks, breachAt, firstBreach, houseLines, shipLines}
+use Rattle.ship.specs.Kinds.{kindB60, kindB100, kindCovers}
+use Rattle.ship.specs.Checks.{least, most, outside, fieldsOf, fieldOut, reducedShort, coversLong, badEnds, badQuarterdeck, foreBefore, breaks, breachAt, firstBreach, houseLines, shipLines}
 use Rattle.ship.specs.Good.{Good, GoodHouses}
 use Rattle.ship.proofs.First.{none-before}
 use Rattle.ship.proofs.Lines.{or-false, all-pass, first-passed}
@@ -109,9 +110,19 @@ certified-of a b e = go (eqb a 0) (eqb b 0) refl refl e
         let n : ¬ (b ≡ 0) = eqb-false b 0 g in
         (λ h. omega arith, λ h. omega arith)
 
+-- 22: a length that its type admits
+reduced-of : (kind l : ℕ) → reducedShort kind l ≡ false → (kind ≡ kindB60 → 100000 < l) × (kind ≡ kindB100 → 100000 < l)
+reduced-of kind l e =
+    let of : (c : ℕ) → kind ≡ c → reducedShort c l ≡ false = λ c k. sym (ap (λ (c : ℕ). reducedShort c l) k) ∙ e in
+    (λ k. leb-false l 100000 (of kindB60 k), λ k. leb-false l 100000 (of kindB100 k))
+
+covers-of : (kind l : ℕ) → coversLong kind l ≡ false → kind ≡ kindCovers → l ≤ 200000
+covers-of kind l e k = ltb-false 200000 l (sym (ap (λ (c : ℕ). coversLong c l) k) ∙ e)
+
 pub good : (x : Ship) → first (shipLines x) .number ≡ 0 → Good x
 good x e =
     let p = all-pass (shipLines x) (omega arith) e in
+    let w = or-false (reducedShort (x .kind) (x .length .0)) (coversLong (x .kind) (x .length .0)) (p .1 .0) in
     let r : (k : ℕ) → k < 13 → (getD least k 0 ≤ getD (fieldsOf x) k 0) × (getD (fieldsOf x) k 0 ≤ getD most k 0) =
     λ k h. in-range (fieldsOf x) k (omega (arith, ltb-false (fieldOut (fieldsOf x)) 13 (p .0))) in
     record {
@@ -135,6 +146,8 @@ good x e =
       };
       displacement = omega (arith, r 11 (omega arith) .1);
       immersion = omega (arith, r 12 (omega arith) .1);
-      certified = certified-of (x .displacement) (x .immersion) (p .1 .0);
-      houses = good-houses (x .length .0) (housesOf x) (ap (λ (v : Paper). v .number) (first-passed (houseLines (x .length .0) (housesOf x)) (p .1 .1)));
+      reduced-long = reduced-of (x .kind) (x .length .0) (w .0);
+      covers-short = covers-of (x .kind) (x .length .0) (w .1);
+      certified = certified-of (x .displacement) (x .immersion) (p .1 .1 .0);
+      houses = good-houses (x .length .0) (housesOf x) (ap (λ (v : Paper). v .number) (first-passed (houseLines (x .length .0) (housesOf x)) (p .1 .1 .1)));
     }

@@ -1,4 +1,4 @@
--- 01, "Refusals and their order", checks 7 to 11, with 02 §1's 18 beside 11; each over all houses before the next begins.
+-- 01, "Refusals and their order", checks 7 to 11, with 02's 22 after 7 and its 18 beside 11; each over all houses before the next begins.
 use Prim.Native.Nat.{ℕ, zero, suc, _+_, _-_, min}
 use mathlib.Core.Bool.{Bool, not, _&&_, _||_, Bool·beq}
 use mathlib.Core.List.{List, [], _∷_, _++_}
@@ -10,6 +10,7 @@ use Rattle.ship.specs.declared.House.{House}
 use Rattle.ship.specs.declared.Ship.{Ship}
 use Rattle.ship.specs.declared.rule.Rule.{Rule}
 use Rattle.ship.specs.declared.rule.Rule.the-variants.{EndsAndHeight, RaisedQuarterdeck, Follows}
+use Rattle.ship.specs.Kinds.{kindB60, kindB100, kindCovers}
 use Rattle.ship.specs.Vessel.{housesOf, houseAt}
 use Rattle.ship.specs.Refusals.{Line, refused, overlapping}
 
@@ -43,6 +44,13 @@ outside fields k = ltb (getD fields k 0) (getD least k 0) || ltb (getD most k 0)
 
 unfoldable pub fieldOut : List ℕ → ℕ
 fieldOut fields = firstFrom (outside fields) 0 13
+
+-- 22: a type B-60 or B-100 ship of 100 m or less (27(8)), or one with portable covers beyond the 200 m of its table (27(6))
+abbrev pub reducedShort : ℕ → ℕ → Bool
+reducedShort kind l = (eqb kind kindB60 || eqb kind kindB100) && leb l 100000
+
+abbrev pub coversLong : ℕ → ℕ → Bool
+coversLong kind l = eqb kind kindCovers && ltb 200000 l
 
 -- 8: one of fields 12, 13 zero and not the other
 abbrev pub halfCertified : Ship → Bool
@@ -107,10 +115,14 @@ orderLines l hs =
 abbrev pub houseLines : ℕ → List House → List Line
 houseLines l hs = houseLine 9 EndsAndHeight l hs ∷ houseLine 10 RaisedQuarterdeck l hs ∷ orderLines l hs
 
--- 7 and 8, on a ship's fields
+-- 7, 22 and 8, on a ship's fields and its type
 abbrev pub fieldLines : Ship → List Line
-fieldLines x = (ltb (fieldOut (fieldsOf x)) 13, refused 7 (fieldOut (fieldsOf x) + 1)) ∷ (halfCertified x, refused 8 0) ∷ []
+fieldLines x =
+    (ltb (fieldOut (fieldsOf x)) 13, refused 7 (fieldOut (fieldsOf x) + 1))
+    ∷ (reducedShort (x .kind) (x .length .0) || coversLong (x .kind) (x .length .0), refused 22 0)
+    ∷ (halfCertified x, refused 8 0)
+    ∷ []
 
--- 7 to 11 and 18, on a ship
+-- 7 to 11, 18 and 22, on a ship
 abbrev pub shipLines : Ship → List Line
 shipLines x = fieldLines x ++ houseLines (x .length .0) (housesOf x)

@@ -7,6 +7,7 @@ use lib.ListN.{length}
 use Rattle.units.specs.Datum.{stationOf, Lifted}
 use Rattle.ship.specs.declared.House.{House}
 use Rattle.ship.specs.declared.Ship.{Ship}
+use Rattle.ship.specs.Kinds.{kindB60, kindB100, kindCovers}
 use Rattle.ship.specs.Vessel.{housesOf, houseAt}
 
 -- a house that passes 9 and 10
@@ -25,7 +26,7 @@ pub record GoodHouses (l : ℕ) (hs : List House) : Type 0 where
   pub each : (k : ℕ) → k < length hs → GoodHouse l (houseAt hs k)
   pub order : (k : ℕ) → k + 1 < length hs → houseAt hs k .fore .0 ≤ houseAt hs (k + 1) .aft .0
 
--- a ship that passes 7 to 11 and 18
+-- a ship that passes 7 to 11, 18 and 22
 pub record Good (x : Ship) : Type 0 where
   pub length-least : 24000 ≤ x .length .0
   pub length-most : x .length .0 ≤ 365000
@@ -40,5 +41,7 @@ pub record Good (x : Ship) : Type 0 where
   pub sheer : Lifted (x .sheer)
   pub displacement : x .displacement < 1048576
   pub immersion : x .immersion < 65536
+  pub reduced-long : (x .kind ≡ kindB60 → 100000 < x .length .0) × (x .kind ≡ kindB100 → 100000 < x .length .0)
+  pub covers-short : x .kind ≡ kindCovers → x .length .0 ≤ 200000
   pub certified : (0 < x .displacement → 0 < x .immersion) × (0 < x .immersion → 0 < x .displacement)
   pub houses : GoodHouses (x .length .0) (housesOf x)

@@ -1,3 +1,4 @@
+pub mod Kinds
 pub mod Vessel
 pub mod Refusals
 pub mod Checks

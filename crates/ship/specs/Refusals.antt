@@ -1,11 +1,11 @@
--- 01, "Refusals and their order", with 02 §1: a refusal is a number, a place and, for 11, an overlap; the table's order is the order of checks.
+-- 01, "Refusals and their order", with 02: a refusal is a number, a place and, for 11, an overlap; the table's order is the order of checks.
 use Prim.Native.Nat.{ℕ}
 use mathlib.Core.Bool.{Bool}
 use mathlib.Core.List.{List, [], _∷_}
 use Rattle.whole.specs.Pick.{pick}
 use Rattle.ship.specs.declared.refusal.Paper as Declared
 use Rattle.ship.specs.declared.refusal.Refusal.{Refusal}
-use Rattle.ship.specs.declared.refusal.Refusal.the-variants.{ShortRecord, Version, ShipType, HouseCount, RecordLength, SpareBit, FieldRange, HalfCertified, HouseExtent, Quarterdeck, Overlap, NoDraught, FreshAllowance, QuestionRange, NoRoomForPoop, NoLengthFits, ShortBuffer, OutOfOrder}
+use Rattle.ship.specs.declared.refusal.Refusal.the-variants.{ShortRecord, Version, ShipType, HouseCount, RecordLength, SpareBit, FieldRange, HalfCertified, HouseExtent, Quarterdeck, Overlap, NoDraught, FreshAllowance, QuestionRange, NoRoomForPoop, NoLengthFits, ShortBuffer, OutOfOrder, LengthForType}
 use Rattle.ship.specs.declared.refusal.Verdict.{Verdict}
 use Rattle.ship.specs.declared.refusal.Verdict.the-variants.{Accepted, Refused}
 
@@ -44,6 +44,7 @@ refusedAs NoRoomForPoop = refused 15 0
 refusedAs NoLengthFits = refused 16 0
 refusedAs ShortBuffer = refused 17 0
 refusedAs (OutOfOrder k) = refused 18 k
+refusedAs LengthForType = refused 22 0
 
 abbrev pub numberOf : Refusal → ℕ
 numberOf r = refusedAs r .number

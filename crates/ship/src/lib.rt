@@ -1,4 +1,4 @@
-// The ship of record version 1: its fields, and up to eight houses kept by value.
+// The ship of a record: its fields, and up to eight houses kept by value.
 ghost use mathlib.Core.Path.{_≡_};
 ghost use Rattle.ship.specs.Vessel.{noHouse, noShip};
 use units::AP;
@@ -7,6 +7,7 @@ use units::Ordinate;
 use units::Span;
 use units::Station;
 
+pub mod kind;
 pub mod refusal;
 pub mod rule;
 
@@ -21,7 +22,7 @@ pub struct House {
 
 // Fields 1 to 13 in the record's order, and the houses in order from aft, of which the first `n` count.
 pub struct Ship {
-    // 0 is type A, 1 type B.
+    // Its type, one of those in kind.rt.
     pub kind: u64,
     pub n: usize,
     // L, the depth D for freeboard, and the least moulded depth M.

@@ -25,6 +25,7 @@ pub enum Refusal {
     NoLengthFits,
     ShortBuffer,
     OutOfOrder(usize),
+    LengthForType,
 }
 
 pub enum Verdict {
@@ -91,6 +92,7 @@ pub fn told(r: Refusal) -> Paper
         Refusal::NoLengthFits => refused(16, 0),
         Refusal::ShortBuffer => refused(17, 0),
         Refusal::OutOfOrder(k) => refused(18, k),
+        Refusal::LengthForType => refused(22, 0),
     }
 }
 

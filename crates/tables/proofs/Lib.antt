@@ -1,2 +1,3 @@
 pub mod Every
+pub mod Rule27
 pub mod Rule28

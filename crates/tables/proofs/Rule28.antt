@@ -1,12 +1,9 @@
 -- The rule of tables 28.1 and 28.2, proved once over the row.
-use mathlib.Core.Path.{_≡_, refl}
 use mathlib.Core.Bool.{Bool}
-use mathlib.Core.List.{List, [], _∷_}
-use Prim.Native.Nat.{ℕ, zero, suc, _+_, _<_}
-use native.Mathlib.Nat.{le-of-suc-le-suc, not-suc-le-zero}
+use Prim.Native.Nat.{ℕ, _+_, _<_}
 use lib.Dec.{T, leb, ltb, leb→le, ltb→lt}
-use lib.ListN.{length, getD}
-use Rattle.tables.proofs.Every.{both, left, right, every, at}
+use lib.ListN.{getD}
+use Rattle.tables.proofs.Every.{both, left, right, every, at, within}
 use Rattle.tables.specs.Table28.{table28A, table28B}
 use Rattle.tables.specs.Rule28.{RowRule}
 
@@ -20,12 +17,6 @@ test k =
 passed : T (every test 342)
 unfolding test every both table28A table28B
 passed = tt
-
--- within a list it does not matter what would be read past its end
-within : (xs : List ℕ) (k d e : ℕ) → k < length xs → getD xs k d ≡ getD xs k e
-within [] k d e h = absurd (not-suc-le-zero h)
-within (x ∷ xs) zero d e h = refl
-within (x ∷ xs) (suc k) d e h = within xs k d e (le-of-suc-le-suc h)
 
 pub rule : (k : ℕ) → k < 342 → RowRule k
 unfolding test

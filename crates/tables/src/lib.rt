@@ -1,4 +1,5 @@
-// The rows of regulation 28: tables 28.1 and 28.2.
-pub mod row28;
+// The rows of three tables: 27.1 of regulation 27, and 28.1 and 28.2 of regulation 28.
+pub mod row;
+pub mod table27;
 pub mod table28a;
 pub mod table28b;

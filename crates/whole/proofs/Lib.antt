@@ -1,5 +1,6 @@
 pub mod Pick
 pub mod Count
+pub mod Climb
 pub mod Divide
 pub mod Frac
 pub mod Round

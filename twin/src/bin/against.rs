@@ -38,6 +38,7 @@ fn main() -> ExitCode {
 fn compare(program: &str, count: u64, seed: u64) -> Result<String, String> {
     let mut random = Random::new(seed);
     let (mut ships, mut given, mut reduced, mut most) = (0, 0, 0, 0.0f64);
+    let mut kinds = [0; 5];
     while ships < count {
         let n = random.between(0, 8) as usize;
         let Ok(ship) = random.any_ship(n).check() else { continue };
@@ -47,11 +48,14 @@ fn compare(program: &str, count: u64, seed: u64) -> Result<String, String> {
         ships += 1;
         let has_marks = line.starts_with('S');
         given += u64::from(has_marks);
+        kinds[ship.kind as usize] += u64::from(has_marks);
         reduced += u64::from(has_marks && marks::steps(&ship).depth_reduction > 0);
         most = most.max(judge(&ship, &line).map_err(|why| format!("{why}: {}", hex(&record)))?);
     }
+    let [a, b, b60, b100, covers] = kinds;
     Ok(format!(
-        "{ships} ships, {given} with marks, {reduced} of them with a reduction for depth, \
+        "{ships} ships, {given} with marks (A {a}, B {b}, B-60 {b60}, B-100 {b100}, \
+         portable covers {covers}), {reduced} of them with a reduction for depth, \
          S above exact by at most {most:.3} um"
     ))
 }

@@ -1,20 +1,22 @@
--- The field that the search found is the definition's, and the two lines are the table's.
+-- The field that the search found is the definition's, and the three lines are the table's.
 use Prim.Native.Nat.{ℕ, _+_}
+use mathlib.Core.Bool.{Bool, _||_}
 use mathlib.Core.Path.{_≡_, refl, ap, _∙_}
 use lib.Dec.{ltb}
 use borrow.Author.Needs.{needs}
 use Rattle.whole.specs.Pick.{pick}
 use Rattle.ship.specs.declared.Ship.{Ship}
 use Rattle.ship.specs.Refusals.{Paper, paper, accepted, refused, first}
-use Rattle.ship.specs.Checks.{fieldsOf, fieldOut, halfCertified, fieldLines}
+use Rattle.ship.specs.Checks.{fieldsOf, fieldOut, reducedShort, coversLong, halfCertified, fieldLines}
 use Rattle.field_checks.proofs.of_fields.Statement.{statement}
 use Rattle.field_checks.proofs.of_fields.Tie as tie
 
--- two lines, from the last up, are the table's
-lines : (x : Ship) (k : ℕ) (u v : Paper) → k ≡ fieldOut (fieldsOf x) → u ≡ pick (halfCertified x) (refused 8 0) accepted
+-- three lines, from the last up, are the table's
+lines : (x : Ship) (k : ℕ) (t u v : Paper) → k ≡ fieldOut (fieldsOf x) → t ≡ pick (halfCertified x) (refused 8 0) accepted
+    → u ≡ pick (reducedShort (x .kind) (x .length .0) || coversLong (x .kind) (x .length .0)) (refused 22 0) t
     → v ≡ pick (ltb k 13) (refused 7 (k + 1)) u → v ≡ first (fieldLines x)
 unfolding first
-lines x k u v e p q = rw (q, p, e) refl
+lines x k t u v e p q r = rw (r, q, p, e) refl
 
 pub of-fields-spec : {M : Type 1} → statement M
 of-fields-spec =
@@ -25,13 +27,21 @@ of-fields-spec =
     (λ c. search needs)
     (λ c κs. search needs)
     (λ c κs. search needs)
+    (λ c κs. search needs)
+    (λ c κs. search needs)
     (λ c.
-    let f = c .before .before .before .before in
+    let u = c .before in
+    let t = u .before in
+    let w = t .before in
+    let f = w .before .before .before in
+    let x = f .before .before .args .x in
     lines
-    (f .before .before .args .x)
+    x
     (f .field-out .result)
-    (paper (c .before .line .result))
-    (paper (c .line2 .result))
+    (paper (t .line .result))
+    (paper (u .line2 .result))
+    (paper (c .line3 .result))
     (f .field-out .ensures .0 ∙ ap fieldOut (f .before .fields .ensures))
-    (c .before .line .ensures)
-    (c .line2 .ensures)))
+    (t .line .ensures)
+    (u .line2 .ensures ∙ ap (λ (b : Bool). pick b (refused 22 0) (paper (t .line .result))) (w .unfit-length .ensures))
+    (c .line3 .ensures)))

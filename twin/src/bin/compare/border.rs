@@ -5,9 +5,16 @@ use twin::record::{RawShip, MAX_HOUSES};
 
 use crate::flat::{HEADER, SHIP};
 
+/// Numbers of types, and others whose low bits are those of one.
+const KINDS: [u64; 15] =
+    [0, 1, 2, 3, 4, 5, 6, 7, 8, 9, 12, 256, 1 << 32, (1 << 32) + 1, u64::MAX];
+
 /// Puts one of the ship's numbers at a border or one beyond.
 pub fn put(random: &mut Random, raw: &mut RawShip) {
     match random.between(1, 16) {
+        1 if random.once_in(2) => {
+            raw.length = random.pick(&[100_000, 100_001, 200_000, 200_001]);
+        }
         1 => raw.length = random.pick(&[23_999, 24_000, 365_000, 365_001]),
         2 => raw.depth = random.pick(&[999, 1_000, 60_000, 60_001]),
         3 => raw.moulded = random.pick(&[999, 1_000, 60_000, 60_001]),
@@ -19,7 +26,7 @@ pub fn put(random: &mut Random, raw: &mut RawShip) {
         }
         7 => raw.displacement = random.pick(&[0, 1, (1 << 20) - 1, 1 << 20]),
         8 => raw.immersion = random.pick(&[0, 1, (1 << 16) - 1, 1 << 16]),
-        9 => raw.kind = random.pick(&[0, 1, 2, 3]),
+        9 => raw.kind = random.pick(&KINDS),
         10 => raw.n = random.pick(&[0, 7, 8, 9, 15]),
         _ => put_house(random, raw),
     }

@@ -1,5 +1,6 @@
 //! Ships with low houses whose freeboard stands at a whole mm or one um above it: there one um of a
-//! step may show in the mark. Other ships hardly ever show a um of E or of the reduction for depth.
+//! step may show in the mark. Other ships hardly ever show a um of E, of the reduction for depth or of
+//! the line of B-60.
 
 use twin::marks::{self, standard_height, Steps};
 use twin::random::Random;
@@ -15,8 +16,11 @@ pub fn ship(random: &mut Random, n: usize) -> (RawShip, Option<(u64, u64)>) {
     // E is worth most to a short ship.
     let longest = random.pick(&[30_000, 365_000]);
     loop {
-        let mut raw = if shallow { random.low_ship(n) } else { random.ship(n) };
-        if raw.length > longest {
+        let kind = random.kind();
+        let mut raw =
+            if shallow { random.low_ship_of(Some(kind), n) } else { random.ship_of(kind, n) };
+        // B-60 and B-100 are never short.
+        if raw.length > longest && !matches!(kind, 2 | 3) {
             continue;
         }
         put_low_houses(random, &mut raw);
@@ -100,9 +104,9 @@ fn tuned(random: &mut Random, mut ship: Ship, shallow: bool) -> Option<Ship> {
     fine.then_some(ship)
 }
 
-/// At a whole mm or one um above it, where the floor does not decide.
+/// At a whole mm or one um above it, where no type's floor decides.
 pub fn at_whole_mm(freeboard: i64) -> bool {
-    freeboard > 50_000 && freeboard % 1000 <= 1
+    freeboard > 150_000 && freeboard % 1000 <= 1
 }
 
 /// The reduction for depth is there, and the bow height does not hide it.

@@ -4,12 +4,13 @@ use std::fmt;
 
 use twin::question;
 use twin::random::Random;
-use twin::record::{self, RawShip, Ship, MAX_HOUSES};
+use twin::record::{self, Kind as Type, RawShip, Ship, Version, MAX_HOUSES};
 
 use crate::border;
 use crate::fine;
 use crate::flat::{self, SHIP};
 use crate::frame::{MEMORY, ROOM};
+use crate::heads;
 use crate::lists;
 use crate::sheer;
 
@@ -20,6 +21,7 @@ pub enum Kind {
     WholeMm,
     Border,
     List,
+    Head,
     Damaged,
     Noise,
     Sheer,
@@ -32,6 +34,7 @@ impl fmt::Display for Kind {
             Kind::WholeMm => "at a whole mm",
             Kind::Border => "at a border",
             Kind::List => "about overlap and order",
+            Kind::Head => "about types and versions",
             Kind::Damaged => "damaged",
             Kind::Noise => "noise",
             Kind::Sheer => "about sheer",
@@ -58,12 +61,13 @@ impl Input {
         let n = random.between(0, MAX_HOUSES as i64) as usize;
         let raw = random.any_ship(n);
         let mut input = Input::blank(random, n);
-        match random.between(1, 25) {
-            1..=6 => input.pack(&raw),
-            7 | 8 => input.put_whole_mm(random, n),
-            9..=13 => input.put_border(random, raw.clone()),
-            14..=18 => input.put_damaged(random, &raw),
-            19..=23 => input.put_list(random, raw.clone()),
+        match random.between(1, 30) {
+            1..=6 => input.pack(random, &raw),
+            7..=9 => input.put_whole_mm(random, n),
+            10..=14 => input.put_border(random, raw.clone()),
+            15..=19 => input.put_damaged(random, &raw),
+            20..=24 => input.put_list(random, raw.clone()),
+            25..=28 => input.put_head(random, n),
             _ => input.put_noise(random),
         }
         input.ship = stated(random, raw);
@@ -79,7 +83,7 @@ impl Input {
         let mut input = Input::blank(random, raw.n as usize);
         input.kind = Kind::Sheer;
         input.question = question;
-        input.pack(&raw);
+        input.pack(random, &raw);
         input.ship = stated(random, raw);
         input
     }
@@ -102,16 +106,25 @@ impl Input {
         &self.record[..self.record_length]
     }
 
-    fn pack(&mut self, raw: &RawShip) {
+    /// In the lowest version that holds the ship, or for types A and B in version 2.
+    fn pack(&mut self, random: &mut Random, raw: &RawShip) {
+        let version = match random.once_in(4) {
+            true => Version::Two,
+            false => Version::lowest(raw.kind),
+        };
+        self.pack_as(version, raw);
+    }
+
+    fn pack_as(&mut self, version: Version, raw: &RawShip) {
         self.record_length = record::record_bytes(raw.n.min(MAX_HOUSES as u64) as usize);
-        record::pack(&mut self.record[..self.record_length], raw);
+        record::pack_as(version, &mut self.record[..self.record_length], raw);
     }
 
     fn put_whole_mm(&mut self, random: &mut Random, n: usize) {
         let (raw, question) = fine::ship(random, n);
         self.kind = Kind::WholeMm;
         self.question = question;
-        self.pack(&raw);
+        self.pack(random, &raw);
     }
 
     fn put_border(&mut self, random: &mut Random, mut raw: RawShip) {
@@ -119,14 +132,14 @@ impl Input {
         for _ in 0..random.between(0, 2) {
             border::put(random, &mut raw);
         }
-        self.pack(&raw);
+        self.pack(random, &raw);
         match random.between(1, 12) {
             1 => self.record_length = 26,
             2 => self.record_length = 27,
             3 => self.record_length -= 1,
             4 => self.record_length += 1,
             5 => self.record[0] ^= 0x10 << random.between(0, 3), // version
-            6 => self.record[1] ^= 1 << random.between(0, 5),    // spare
+            6 => self.record[1] ^= 1 << random.between(0, 5),    // spare, or the last bit of n
             7 => self.record[self.record_length - 1] ^= 1,       // immersion, or a house's spare
             _ => {}
         }
@@ -135,12 +148,28 @@ impl Input {
     fn put_list(&mut self, random: &mut Random, mut raw: RawShip) {
         self.kind = Kind::List;
         lists::put(random, &mut raw);
-        self.pack(&raw);
+        self.pack(random, &raw);
+    }
+
+    /// The type and the version, which need not hold it, and what else of the head may be wrong.
+    fn put_head(&mut self, random: &mut Random, n: usize) {
+        self.kind = Kind::Head;
+        let raw = heads::ship(random, n);
+        let lowest = Version::lowest(raw.kind);
+        self.pack_as(random.pick(&[lowest, lowest, lowest, Version::Two, Version::One]), &raw);
+        heads::damage(random, &mut self.record);
+        match random.between(1, 24) {
+            1 => self.record_length = 26,
+            2 => self.record_length -= 1,
+            3 => self.record_length += 1,
+            4 => self.record_length += 8,
+            _ => {}
+        }
     }
 
     fn put_damaged(&mut self, random: &mut Random, raw: &RawShip) {
         self.kind = Kind::Damaged;
-        self.pack(raw);
+        self.pack(random, raw);
         let length = self.record_length as i64;
         match random.between(1, 6) {
             1 => self.record_length = random.between(0, length - 1) as usize,
@@ -163,8 +192,10 @@ impl Input {
         self.kind = Kind::Noise;
         self.record_length = random.between(0, 100) as usize;
         self.record.fill_with(|| random.number() as u8);
-        if random.once_in(2) {
-            self.record[0] = 0x10 | self.record[0] & 0x07; // version 1, a known type
+        match random.between(1, 4) {
+            1 => self.record[0] = 0x10 | self.record[0] & 0x07, // version 1, type A or B
+            2 => self.record[0] = 0x20 | self.record[0] & 0x07, // version 2, types A to B-100
+            _ => {}
         }
     }
 }
@@ -183,12 +214,14 @@ fn buffer_length(random: &mut Random, n: usize) -> usize {
     }
 }
 
-/// The numbers of the ship: as they are, at a border, with another list of houses, or any.
+/// The numbers of the ship: as they are, at a border, with another list of houses, about refusal 22,
+/// or any.
 fn stated(random: &mut Random, mut raw: RawShip) -> [u64; SHIP] {
-    let kind = random.between(1, 12);
+    let kind = random.between(1, 14);
     match kind {
         5..=7 => border::put(random, &mut raw),
         11 | 12 => lists::put(random, &mut raw),
+        13 | 14 => raw = heads::ship(random, raw.n as usize),
         _ => {}
     }
     let yes = random.pick(&[1, 1, 1, 2, 256, 1 << 32, 1 << 63, u64::MAX]);
@@ -219,6 +252,9 @@ fn asked(random: &mut Random, record: &[u8]) -> (u64, u64) {
     };
     if earns_by_poop(&ship) && random.once_in(4) {
         return asked_amidships(random, &ship);
+    }
+    if ship.kind == Type::Covers && random.once_in(8) {
+        return (height, random.pick(&[49, 50, 149, 150, 151]));
     }
     // The mark that a poop of up to so many dm gives, if it gives any.
     let hit = |random: &mut Random, most: i64| {

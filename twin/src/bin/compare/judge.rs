@@ -1,6 +1,6 @@
 //! What the twin answers to an input, and where an answer differs from it.
 
-use twin::record::{self, Ship};
+use twin::record::{self, Ship, Version};
 use twin::refusal::Refusal;
 use twin::{marks, question};
 
@@ -40,14 +40,26 @@ fn numbers<const N: usize, const GIVEN: usize>(result: Result<[u64; GIVEN], Refu
     numbers
 }
 
-/// A ship that was read gives its record back.
+/// A ship that was read gives its record back, if that is in the lowest version that holds the ship.
+/// Otherwise it gives a record of that version, which reads as the same ship.
 fn written_back(input: &Input, ship: Result<&Ship, Refusal>) -> Written {
     let mut back = Written { numbers: [0; WRITE], memory: input.memory };
-    if ship.is_ok() {
-        back.numbers[REFUSAL] = input.record_length as u64;
-        back.memory[GUARD..][..input.record_length].copy_from_slice(input.record());
+    let Ok(ship) = ship else { return back };
+    let length = input.record_length;
+    let written = &mut back.memory[GUARD..][..length];
+    if in_lowest_version(input, ship) {
+        written.copy_from_slice(input.record());
+    } else {
+        assert_eq!(record::write(written, &ship.raw()), Ok(length));
+        assert_eq!(record::read(written).as_ref(), Ok(ship));
     }
+    back.numbers[REFUSAL] = length as u64;
     back
+}
+
+/// Whether the record of this ship has the version that a writer gives it.
+pub fn in_lowest_version(input: &Input, ship: &Ship) -> bool {
+    input.record[0] >> 4 == Version::lowest(ship.kind as u64) as u8
 }
 
 fn written(input: &Input) -> Written {

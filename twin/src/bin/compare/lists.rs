@@ -28,7 +28,7 @@ mod tests {
     /// Ships of 0 to 8 houses with such lists.
     fn ships(seed: u64) -> impl Iterator<Item = RawShip> {
         let mut random = Random::new(seed);
-        (0..20_000).map(move |i| {
+        (0..40_000).map(move |i| {
             let mut raw = random.any_ship(i % 9);
             put(&mut random, &mut raw);
             raw

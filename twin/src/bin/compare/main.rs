@@ -8,6 +8,7 @@ mod border;
 mod fine;
 mod flat;
 mod frame;
+mod heads;
 mod input;
 mod judge;
 mod lists;

@@ -61,6 +61,11 @@ fn drawn(random: &mut Random) -> RawShip {
     let [fp, fp_sixth, fp_third] = ordinates(random, forward);
     let mut raw = random.ship(0);
     raw.length = length as u64;
+    raw.kind = match random.kind() {
+        2 | 3 if length <= 100_000 => 1,
+        4 if length > 200_000 => 1,
+        kind => kind,
+    };
     raw.depth = depth(random, length) as u64;
     raw.sheer = match random.between(1, 30) {
         1 => std::array::from_fn(|_| random.pick(&[LEAST, MOST])),

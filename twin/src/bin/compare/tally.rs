@@ -1,5 +1,6 @@
-//! What was compared, how often a reduction for depth was in it, and how often each refusal was seen,
-//! 11 and 18 in each call; for inputs around the borders of sheer, where the marks lie.
+//! What was compared, how many marks of each type were in it, how often a reduction for depth was, and
+//! how often each refusal was seen, 11, 18 and 22 in each call; for inputs around the borders of sheer,
+//! where the marks lie.
 
 use std::fmt;
 
@@ -8,26 +9,44 @@ use twin::record::{self, Ship};
 
 use crate::frame::{Answer, REFUSAL};
 use crate::input::{Input, Kind};
+use crate::judge;
 use crate::sheer;
 
 /// Of records that are not around the borders of sheer.
-const KINDS: [Kind; 6] =
-    [Kind::Valid, Kind::WholeMm, Kind::Border, Kind::List, Kind::Damaged, Kind::Noise];
+const KINDS: [Kind; 7] = [
+    Kind::Valid,
+    Kind::WholeMm,
+    Kind::Border,
+    Kind::List,
+    Kind::Head,
+    Kind::Damaged,
+    Kind::Noise,
+];
+const TYPES: [&str; 5] = ["A", "B", "B-60", "B-100", "portable covers"];
 const WRITES_BACK: &str = "writes back";
 const CALLS: [&str; 5] = ["marks", "reads", WRITES_BACK, "writes", "questions"];
-const REFUSALS: usize = 18;
+const REFUSALS: [usize; 19] =
+    [1, 2, 3, 4, 5, 6, 7, 22, 8, 9, 10, 11, 18, 12, 13, 14, 15, 16, 17];
+/// One more than the greatest.
+const NUMBERS: usize = 23;
 
 #[derive(Default)]
 pub struct Tally {
     pub inputs: u64,
     /// In the order of `Kind`.
-    kinds: [u64; 7],
+    kinds: [u64; 8],
     /// Calls made and accepted, in the order of `CALLS`.
     calls: [(u64, u64); CALLS.len()],
+    /// Marks of each type.
+    types: [u64; TYPES.len()],
+    /// Summer marks at 50 and at 150, the floor of their type.
+    floors: [u64; 2],
+    /// Records that were read: of version 1, of version 2, and of version 2 and written back in 1.
+    versions: [u64; 3],
     /// Marks with a reduction for depth, and poops that earn one.
     reductions: (u64, u64),
-    /// By number, from 1; for each of `CALLS`.
-    refusals: [[u64; REFUSALS]; CALLS.len()],
+    /// By number; for each of `CALLS`.
+    refusals: [[u64; NUMBERS]; CALLS.len()],
     /// Overlaps of 1 mm, and the greatest.
     overlaps: (u64, u64),
     /// For inputs around the borders of sheer.
@@ -101,7 +120,7 @@ impl Tally {
             *calls += u64::from(made);
             *accepted += u64::from(made && refusal == 0);
             if refusal > 0 {
-                self.refusals[call][refusal - 1] += 1;
+                self.refusals[call][refusal] += 1;
             }
             self.overlaps.0 += u64::from(overlap == 1);
             self.overlaps.1 = self.overlaps.1.max(overlap);
@@ -111,8 +130,14 @@ impl Tally {
 
     fn add_steps(&mut self, input: &Input, answer: &Answer) {
         let Ok(ship) = record::read(input.record()) else { return };
+        let second = input.record[0] >> 4 == 2;
+        self.versions[usize::from(second)] += 1;
+        self.versions[2] += u64::from(!judge::in_lowest_version(input, &ship));
         if answer.marks[0] == 0 {
             let steps = marks::steps(&ship);
+            self.types[ship.kind as usize] += 1;
+            let floor = marks::floor(ship.kind);
+            self.floors[usize::from(floor == 150)] += u64::from(steps.summer == floor);
             self.reductions.0 += u64::from(steps.depth_reduction > 0);
             if let Some(sheer) = &mut self.sheer {
                 sheer.add(&ship, &steps);
@@ -126,25 +151,36 @@ impl Tally {
 
     /// How often a refusal was seen in all calls.
     fn seen(&self, refusal: usize) -> u64 {
-        self.refusals.iter().map(|call| call[refusal - 1]).sum()
+        self.refusals.iter().map(|call| call[refusal]).sum()
     }
 
-    /// The lowest refusal that was never seen.
+    /// The first refusal, in the order of the checks, that was never seen.
     pub fn unseen(&self) -> Option<usize> {
-        (1..=REFUSALS).find(|&refusal| self.seen(refusal) == 0)
+        REFUSALS.into_iter().find(|&refusal| self.seen(refusal) == 0)
     }
 
-    /// Refusals 11 and 18 in each call but writing back: a ship that was read is never refused.
-    fn bad_lists(&self) -> String {
+    /// Refusals 11, 18 and 22 in each call but writing back: a ship that was read is never refused.
+    fn in_each_call(&self) -> String {
         let calls = CALLS.iter().zip(&self.refusals).filter(|(call, _)| **call != WRITES_BACK);
-        let [overlap, order] = [11, 18].map(|refusal| refusal - 1);
-        let counts =
-            calls.map(|(call, seen)| format!("{call} {} and {}", seen[overlap], seen[order]));
+        let counts = calls
+            .map(|(call, seen)| format!("{call} {}, {} and {}", seen[11], seen[18], seen[22]));
         format!(
-            "11 and 18 in {}; overlaps of 1 mm {}, the greatest {} mm",
+            "11, 18 and 22 in {}; overlaps of 1 mm {}, the greatest {} mm",
             counts.collect::<Vec<_>>().join(", "),
             self.overlaps.0,
             self.overlaps.1
+        )
+    }
+
+    /// Marks by type and at the floors, and records by version.
+    fn types_and_versions(&self) -> String {
+        let types = TYPES.iter().zip(self.types).map(|(name, count)| format!("{name} {count}"));
+        let ([fifty, more], [first, second, back]) = (self.floors, self.versions);
+        format!(
+            "marks of types {}, at the floor of 50 mm {fifty}, of 150 mm {more}; \
+             records read of version 1 {first}, of version 2 {second}, \
+             {back} of them written back in version 1",
+            types.collect::<Vec<_>>().join(", ")
         )
     }
 }
@@ -162,18 +198,19 @@ impl fmt::Display for Tally {
             .map(|(call, (made, accepted))| format!("{made} {call} ({accepted} accepted)"))
             .collect();
         let refusals: Vec<_> =
-            (1..=REFUSALS).map(|number| format!("{number}: {}", self.seen(number))).collect();
+            REFUSALS.iter().map(|&number| format!("{number}: {}", self.seen(number))).collect();
         write!(
             f,
-            "{} inputs, no difference: {}; {}; \
+            "{} inputs, no difference: {}; {}; {}; \
              {} marks with a reduction for depth, {} poops that earn one; refusals {}; {}",
             self.inputs,
             kinds.join(", "),
             calls.join(", "),
+            self.types_and_versions(),
             self.reductions.0,
             self.reductions.1,
             refusals.join(", "),
-            self.bad_lists()
+            self.in_each_call()
         )?;
         match &self.sheer {
             Some(sheer) => write!(f, "; {sheer}"),
@@ -200,7 +237,21 @@ mod tests {
         assert!(marks >= 250 && poops >= 10, "{tally}");
     }
 
-    /// All refusals are seen, and both of a list of houses in every call.
+    /// Every type has marks, at either floor too, and every version is read.
+    #[test]
+    fn types_are_drawn() {
+        let mut random = Random::new(5);
+        let mut tally = Tally::default();
+        for _ in 0..20_000 {
+            let input = Input::draw(&mut random);
+            tally.add(&input, &judge::worked(&input));
+        }
+        assert!(tally.types.iter().all(|&n| n >= 500), "{tally}");
+        assert!(tally.floors.iter().all(|&n| n >= 40), "{tally}");
+        assert!(tally.versions.iter().all(|&n| n >= 500), "{tally}");
+    }
+
+    /// All refusals are seen, and both of a list of houses and 22 in every call.
     #[test]
     fn refusals_are_drawn() {
         let mut random = Random::new(18);
@@ -211,11 +262,11 @@ mod tests {
         }
         assert_eq!(tally.unseen(), None, "{tally}");
         for (call, seen) in CALLS.iter().zip(&tally.refusals) {
-            let [overlap, order] = [seen[10], seen[17]];
+            let counts = [seen[11], seen[18], seen[22]];
             if *call == WRITES_BACK {
-                assert_eq!([overlap, order], [0, 0], "{tally}");
+                assert_eq!(counts, [0; 3], "{tally}");
             } else {
-                assert!(overlap >= 100 && order >= 100, "{tally}");
+                assert!(counts.iter().all(|&n| n >= 20), "{tally}");
             }
         }
     }

@@ -1,4 +1,4 @@
-// Two rows of a table of regulation 28, in mm.
+// Two rows of a table of freeboards, in mm.
 ghost use mathlib.Core.Path.{_≡_};
 ghost use Prim.Native.Nat.{_<_};
 

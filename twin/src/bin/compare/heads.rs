@@ -1,0 +1,142 @@
+//! Records and ships about refusals 2, 3, 6 and 22: types, versions, and lengths where one of them ends.
+
+use twin::bits;
+use twin::random::Random;
+use twin::record::RawShip;
+
+use crate::border;
+
+/// A ship about refusal 22 with `n` houses. All else is sound, but for 7, 8 or a house at times.
+pub fn ship(random: &mut Random, n: usize) -> RawShip {
+    let kind = random.between(0, 4) as u64;
+    let length = match random.between(1, 4) {
+        1 | 2 => random.pick(&[100_000, 200_000]) + random.between(-1, 1),
+        3 => random.between(24_000, 365_000),
+        _ => random.length_of(kind),
+    };
+    let mut raw = RawShip { kind, ..random.ship_of_length(length.max(24_000), n) };
+    match random.between(1, 12) {
+        // Refusal 7 by another field, or by the length itself.
+        1 => raw.cwf = random.pick(&[0, 10_001]),
+        2 => raw.length = random.pick(&[23_999, 365_001]),
+        3 => raw.immersion = 0,
+        4 => raw.displacement = 0,
+        5 => border::put(random, &mut raw),
+        _ => {}
+    }
+    raw
+}
+
+/// Puts another version, type, number of houses or spare bit over a record's head, every other time.
+pub fn damage(random: &mut Random, record: &mut [u8]) {
+    for _ in 0..random.pick(&[0, 0, 1, 2]) {
+        match random.between(1, 5) {
+            1 => bits::put_over(record, 0, 4, random.between(0, 15) as u64),
+            2 => bits::put_over(record, 4, 3, random.between(0, 7) as u64),
+            3 => bits::put_over(record, 7, 4, random.between(0, 15) as u64),
+            4 => record[1] ^= 1 << random.between(0, 5),
+            // The last spare bits of a house, or of the immersion if there is none.
+            _ => record[random.pick(&[34, 42])] ^= 1 << random.between(0, 6),
+        }
+    }
+}
+
+#[cfg(test)]
+mod tests {
+    use super::*;
+    use crate::input::Input;
+    use crate::judge;
+    use twin::record::{self, Version};
+
+    fn count<const N: usize>(seen: &mut [u32; N], holds: [bool; N]) {
+        for (count, holds) in seen.iter_mut().zip(holds) {
+            *count += u32::from(holds);
+        }
+    }
+
+    /// Each type on both sides of its border, and 22 beside 7, 8 and a bad house.
+    #[test]
+    fn ships() {
+        let mut random = Random::new(22);
+        let mut seen = [0; 12];
+        for i in 0..20_000 {
+            let raw = ship(&mut random, i % 9);
+            let (kind, length) = (raw.kind, raw.length);
+            let number = raw.check().map_or_else(|refusal| refusal.number, |_| 0);
+            let alone = RawShip { kind: 1, ..raw.clone() }.check();
+            let other = alone.map_or_else(|refusal| refusal.number, |_| 0);
+            let takes = matches!((kind, length), (2 | 3, ..=100_000) | (4, 200_001..));
+            let holds = [
+                kind == 2 && length == 100_000 && number == 22,
+                kind == 3 && length == 100_000 && number == 22,
+                kind == 4 && length == 200_001 && number == 22,
+                kind == 2 && length == 100_001 && number == 0,
+                kind == 3 && length == 100_001 && number == 0,
+                kind == 4 && length == 200_000 && number == 0,
+                kind == 4 && length == 100_000 && number == 0,
+                kind < 2 && matches!(length, 100_000 | 200_001) && number == 0,
+                takes && number == 7,
+                takes && number == 22 && other == 8,
+                takes && number == 22 && other >= 9,
+                number == 8,
+            ];
+            count(&mut seen, holds);
+        }
+        assert!(seen.iter().all(|&n| n >= 30), "{seen:?}");
+    }
+
+    /// Every version and every type in each of the two, with what they come to.
+    #[test]
+    fn heads() {
+        let mut random = Random::new(2);
+        let mut versions = [0; 16];
+        let mut types = [[0; 8]; 2];
+        let mut spare = [[0; 6]; 2];
+        let mut seen = [0; 5];
+        for _ in 0..60_000 {
+            let input = Input::draw(&mut random);
+            let bytes = input.record();
+            if bytes.len() < record::HEADER_BYTES {
+                continue;
+            }
+            let version = bytes[0] >> 4;
+            versions[usize::from(version)] += 1;
+            let read = record::read(bytes);
+            let number = read.as_ref().map_or_else(|refusal| refusal.number, |_| 0);
+            let head = u16::from_be_bytes([bytes[0], bytes[1]]);
+            if let Some(version) = Version::of(version.into()) {
+                let place = version as usize - 1;
+                let (bits, _) = version.widths();
+                types[place][usize::from(head << 4 >> (16 - bits))] += 1;
+                for (bit, seen) in spare[place].iter_mut().enumerate() {
+                    *seen += u32::from(number == 6 && head >> bit & 1 == 1);
+                }
+            }
+            let lowest = read.as_ref().is_ok_and(|ship| judge::in_lowest_version(&input, ship));
+            let holds = [
+                number == 0 && version == 1,
+                number == 0 && version == 2 && lowest,
+                number == 0 && version == 2 && !lowest,
+                number == 3 && version == 1,
+                number == 3 && version == 2,
+            ];
+            count(&mut seen, holds);
+        }
+        assert!(versions.iter().all(|&n| n >= 100), "{versions:?}");
+        assert!(types[0][..4].iter().chain(&types[1]).all(|&n| n >= 100), "{types:?}");
+        assert!(spare[0].iter().chain(&spare[1][..5]).all(|&n| n >= 50), "{spare:?}");
+        assert!(seen.iter().all(|&n| n >= 300), "{seen:?}");
+    }
+
+    /// Ships from C have types far beyond those of a record.
+    #[test]
+    fn types_beyond() {
+        let mut random = Random::new(3);
+        let kinds: Vec<u64> =
+            (0..60_000).map(|_| Input::draw(&mut random).ship[0]).filter(|&kind| kind > 4).collect();
+        for kind in [5, 6, 7, 8, 256, 1 << 32, (1 << 32) + 1, u64::MAX] {
+            assert!(kinds.contains(&kind), "{kind}");
+        }
+        assert!(kinds.iter().filter(|&&kind| kind > 1 << 60).count() >= 100);
+    }
+}

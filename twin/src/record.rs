@@ -8,6 +8,8 @@ use crate::refusal::Refusal;
 
 /// Most houses a ship holds.
 pub const MAX_HOUSES: usize = 8;
+/// Version, type, number of houses and spare bits.
+const HEAD_BITS: usize = 16;
 pub const HEADER_BYTES: usize = 27;
 pub const HOUSE_BYTES: usize = 8;
 
@@ -47,7 +49,7 @@ impl Kind {
     }
 }
 
-/// How the header begins: the bits for version, type, number of houses and spare make two bytes.
+/// What the head's bits are: those of version, type, number of houses and spare make two bytes.
 #[derive(Clone, Copy, Debug, PartialEq, Eq)]
 pub enum Version {
     One = 1,
@@ -181,19 +183,26 @@ pub fn record_bytes(n: usize) -> usize {
 /// Reads a record of either version: refusals 1 to 11, 18 and 22.
 pub fn read(bytes: &[u8]) -> Result<Ship, Refusal> {
     Refusal::unless(bytes.len() >= HEADER_BYTES, Refusal::SHORT_RECORD)?;
-    let mut header = BitReader::new(&bytes[..HEADER_BYTES]);
-    let version = Version::of(header.take(4)).ok_or(Refusal::at(Refusal::VERSION, 0))?;
+    let mut head = BitReader::new(&bytes[..HEADER_BYTES]);
+    let version = Version::of(head.take(4)).ok_or(Refusal::at(Refusal::VERSION, 0))?;
     let (kind_bits, spare_bits) = version.widths();
-    let kind = header.take(kind_bits);
-    let n = header.take(4);
-    let mut spare = header.take(spare_bits);
+    let kind = head.take(kind_bits);
+    let n = head.take(4);
+    let spare = head.take(spare_bits);
     Refusal::unless(kind <= version.last_kind(), Refusal::KIND)?;
     let (_, count) = kind_and_count(kind, n)?;
     Refusal::unless(bytes.len() == record_bytes(count), Refusal::RECORD_LENGTH)?;
+    let (raw, house_spare) = unpack(bytes);
+    Refusal::unless(spare | house_spare == 0, Refusal::SPARE_BIT)?;
+    RawShip { kind, n, ..raw }.check()
+}
 
+/// What stands after the head, unchecked: the fields, the houses there are bytes for, and all spare
+/// bits of these. Both versions have it alike; there are at least 27 bytes.
+pub fn unpack(bytes: &[u8]) -> (RawShip, u64) {
+    let mut header = BitReader::new(&bytes[..HEADER_BYTES]);
+    header.take(HEAD_BITS);
     let mut raw = RawShip {
-        kind,
-        n,
         length: header.take(20),
         depth: header.take(16),
         moulded: header.take(16),
@@ -204,6 +213,7 @@ pub fn read(bytes: &[u8]) -> Result<Ship, Refusal> {
         immersion: header.take(16),
         ..RawShip::default()
     };
+    let mut spare = 0;
     let parts = bytes[HEADER_BYTES..].chunks_exact(HOUSE_BYTES);
     for (house, part) in raw.houses.iter_mut().zip(parts) {
         let mut fields = BitReader::new(part);
@@ -216,8 +226,7 @@ pub fn read(bytes: &[u8]) -> Result<Ship, Refusal> {
         };
         spare |= fields.take(7);
     }
-    Refusal::unless(spare == 0, Refusal::SPARE_BIT)?;
-    raw.check()
+    (raw, spare)
 }
 
 /// Writes a ship in the lowest version that holds it: refusals 3, 4, 7 to 11, 18 and 22, and 17 last.

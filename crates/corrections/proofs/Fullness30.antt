@@ -7,7 +7,7 @@ use Rattle.whole.specs.Round.{Near, Within}
 use Rattle.whole.proofs.Pick.{by-cases, by-both}
 use Rattle.whole.proofs.Divide.{mul-most}
 use Rattle.whole.proofs.Frac.{refl≤, *-mono≤}
-use Rattle.whole.proofs.Round.{loosen, near-times, near-ceil, ceil-under}
+use Rattle.whole.proofs.Round.{loosen, near-times, near-ceil, ceil-under, ceil-mono}
 use Rattle.corrections.specs.Fullness30.{fullness, exactFullness}
 
 -- what the sum is off by grows with it, by at most 1.88 / 1.36, and the rounding costs 1 um
@@ -24,3 +24,10 @@ fullness-most cb sum h =
     ceil-under (2 * sum)
     (by-cases (λ (x : Frac). x ≤f whole (2 * sum)) (ltb 6800 cb) _ _
     (λ t. omega (arith, mul-most sum (cb + 6800) sum 18800 (omega arith) (omega arith))) (λ t. omega arith))
+
+-- of a greater sum no less
+pub fullness-rises : (cb m n : ℕ) → m ≤ n → fullness cb m ≤ fullness cb n
+unfolding fullness exactFullness
+fullness-rises cb m n h =
+    let k : whole m ≤f whole n = omega arith in
+    ceil-mono _ _ (by-both (λ (x y : Frac). x ≤f y) (ltb 6800 cb) _ _ _ _ (λ t. *-mono≤ k (refl≤ (frac (cb + 6800) 13600))) (λ t. k))

@@ -1,5 +1,5 @@
 -- Regulation 29: the quotient that code computes, its bound, and the cost of a rounded E.
-use mathlib.Core.Path.{_≡_}
+use mathlib.Core.Path.{_≡_, sym, _∙_}
 use Prim.Native.Nat.{ℕ, _*_, _-_, _≤_, _<_}
 use native.Mathlib.Omega.{arith}
 use borrow.Author.Tests.{ltb-false}
@@ -7,7 +7,7 @@ use lib.Dec.{ltb}
 use Rattle.whole.specs.Divide.{ceilDiv}
 use Rattle.whole.specs.Frac.{Frac, _≈f_, _<f?_, _+f_, _-f_, _*f_, whole, frac}
 use Rattle.whole.specs.Round.{Within, Below}
-use Rattle.whole.proofs.Divide.{ceil-most, mul-most}
+use Rattle.whole.proofs.Divide.{ceil-most, ceil-nought, mul-most}
 use Rattle.whole.proofs.Frac.{bot-of, untested-frac, trans≈, *-mono≤}
 use Rattle.whole.proofs.Round.{loosen, restate, exactly, ceil-of, near-less, near-times, near-ceil}
 use Rattle.corrections.specs.Short29.{shortB, exactShortB}
@@ -45,3 +45,9 @@ short-most l e h =
     rw (← short-quotient l e (omega arith))
     (ceil-most ((350 * l - e) * (3 * (100000 - l))) (400 * l) 199500 (omega arith)
     (omega (arith, mul-most (350 * l - e) (3 * (100000 - l)) (350 * l) 228000 (omega arith) (omega arith))))
+
+-- and nothing from 100 m on
+pub short-long : (l e : ℕ) → 100000 ≤ l → shortB l e ≡ 0
+short-long l e h =
+    let z : (350 * l - e) * (3 * (100000 - l)) ≡ 0 = (let k : 100000 - l ≡ 0 = omega arith in rw k (omega arith)) in
+    sym (short-quotient l e (omega arith)) ∙ rw z (ceil-nought (400 * l) (omega arith))

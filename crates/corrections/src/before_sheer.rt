@@ -30,7 +30,7 @@ pub fn made_full(
     cb: u64,
     effective: Effective,
 ) -> Freeboard
-    requires { ⌜ (table .0 ≤ 6000000) × (24000 ≤ length .0) × (length .0 ≤ 365000) × (cb ≤ 12000) ⌝ }
+    requires { ⌜ (table .0 ≤ 6400000) × (24000 ≤ length .0) × (length .0 ≤ 365000) × (cb ≤ 12000) ⌝ }
     ensures { λ r. ⌜ r .0 ≡ madeFull (table .0) b (length .0) cb (effective .0) ⌝ }
     ensures { λ r. ⌜ r .0 ≤ 2 ^ 24 ⌝ }
 {

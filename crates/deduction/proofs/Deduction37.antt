@@ -1,14 +1,14 @@
 -- Regulation 37: what code computes, the bounds, and what each rounding costs.
 use mathlib.Core.Path.{_≡_, refl, ap, sym, _∙_}
-use mathlib.Core.Bool.{Bool, _&&_}
+use mathlib.Core.Bool.{Bool, true, false, _&&_, true≢false}
 use mathlib.Core.List.{List, [], _∷_}
 use Prim.Native.Nat.{ℕ, _+_, _*_, _-_, _/_, _≤_, _<_}
 use native.Mathlib.Omega.{arith}
-use native.Mathlib.Nat.{div-mul-le-self, lt-div-mul-add, mul-one, one-mul}
+use native.Mathlib.Nat.{le-refl, div-mul-le-self, lt-div-mul-add, mul-one, one-mul}
 use borrow.Author.Tests.{ltb-true, lt-ltb, le-ltb}
 use lib.Dec.{ltb}
 use lib.ListN.{length, getD}
-use Rattle.whole.specs.Frac.{Frac, _≤f_, _≈f_, _+f_, _*f_, whole, frac}
+use Rattle.whole.specs.Frac.{Frac, _≤f_, _<f?_, _≈f_, _+f_, _*f_, whole, frac}
 use Rattle.whole.specs.Pick.{pick}
 use Rattle.whole.specs.Round.{Below}
 use Rattle.whole.specs.Row.{Rising, height, along}
@@ -133,3 +133,19 @@ deducted-below {s = s} r typeB f l e x h w =
     let m = s *f frac 81 1000 +f frac 308 100 in
     by-both (λ (c : ℕ) (y : Frac). Below c y m) (lacksForecastle typeB f l) _ _ _ _
     (λ t. near-self (whole 0) m) (λ t. deduction-below r l e x h w)
+
+-- a ship of type B has no more than one of type A
+pub deducted-falls : (t u : Bool) (row : List ℕ) (f : Frac) (l e : ℕ) → (t ≡ true → u ≡ true) → deducted u row f l e ≤ deducted t row f l e
+unfolding deducted lacksForecastle pick
+deducted-falls false u row f l e b = by-cases (λ (n : ℕ). n ≤ deduction row l e) (u && (f <f? whole (70 * l))) 0 (deduction row l e) (λ t. omega arith) (λ t. le-refl _)
+deducted-falls true true row f l e b = le-refl _
+deducted-falls true false row f l e b = absurd (true≢false (sym (b refl)))
+
+-- and the same where its forecastle is long enough
+pub deducted-same : (t u : Bool) (row : List ℕ) (f : Frac) (l e : ℕ) → lacksForecastle true f l ≡ false → deducted t row f l e ≡ deducted u row f l e
+unfolding deducted lacksForecastle
+deducted-same t u row f l e h = ap (λ (b : Bool). pick b 0 (deduction row l e)) (either t ∙ sym (either u))
+  where
+    either : (b : Bool) → lacksForecastle b f l ≡ false
+    either true = h
+    either false = refl

@@ -8,8 +8,7 @@ use lib.ListN.{replicate}
 use Rattle.whole.specs.Frac.{Frac}
 use Rattle.units.specs.declared.Ordinate.{Ordinate}
 use Rattle.units.specs.Datum.{stationOf, lift}
-use Rattle.tables.specs.Table28.{table28A, table28B}
-use Rattle.tabular.specs.Tabular.{tabular}
+use Rattle.tabular.specs.Tabular.{tableA, tableB}
 use Rattle.percentages.specs.Table37.{ordinaryRow}
 use Rattle.ship.specs.declared.House.{House}
 use Rattle.ship.specs.declared.Ship.{Ship}
@@ -25,7 +24,7 @@ use Rattle.deduction.specs.Deduction37.{deducted}
 use Rattle.sheer.specs.Sheer as Sheer
 use Rattle.bow.specs.Bow.{higher, lower}
 use Rattle.mark.specs.Others.{Sheet}
-use Rattle.steps.specs.Steps.{typeB, effectiveE, forecastleHouse, addedTo, takenFrom, summerOf}
+use Rattle.steps.specs.Steps.{typeB, basis, effectiveE, forecastleHouse, addedTo, takenFrom, summerOf}
 use Rattle.marks.specs.Marks.{sheetIn}
 use Rattle.trial.specs.Poop.{withPoop}
 use Rattle.question.specs.Question.{Reply, replyIn}
@@ -67,7 +66,7 @@ headRow k s n =
 -- ---- what is worked from a ship
 -- the freeboard before bow height, and the bow height (39)
 abbrev pub beforeBow : Ship → ℕ
-beforeBow x = addedTo x - takenFrom ordinaryRow x
+beforeBow x = addedTo (basis x .line) x - takenFrom ordinaryRow x
 
 unfoldable pub bowHeight : ℕ → ℕ → ℕ → ℕ → ℕ
 bowHeight l m cb cwf = higher l m cb cwf - lower l m cb cwf
@@ -134,8 +133,8 @@ figures =
     ∷ row 2 (houseFields (houseIn (houseAt k2 0))) (1 ∷ 0 ∷ 80000 ∷ 90000 ∷ 2000 ∷ 0 ∷ [])
     ∷ one 2 (deductionOf (shipIn k2)) 69095
     ∷ marksRow 2 (sheetIn k2) (0 ∷ 0 ∷ 0 ∷ 1024 ∷ 921 ∷ 1128 ∷ 1178 ∷ 921 ∷ 818 ∷ [])
-    ∷ one 7 (tabular table28A 61500) 593500
-    ∷ one 7 (tabular table28B 61500) 594000
+    ∷ one 7 (tableA 61500) 593500
+    ∷ one 7 (tableB 61500) 594000
     ∷ one 8 (depthAddition 100000 6666) 0
     ∷ one 8 (depthAddition 100000 8000) 277778
     ∷ heightRow 9 (standardHeight 100000 false) 2050

@@ -10,7 +10,7 @@ use Rattle.bow.specs.Bow.{higher, lower, sheerTaken}
 use Rattle.steps.specs.Steps.{typeB, basis}
 use Rattle.hull.specs.declared.Hull.{Hull}
 
--- what the type decides (28, 40), depth and what it adds (31), the mean of the sheer (38), and the bow height before the forecastle is taken (39)
+-- what the type decides (27, 28, 40), depth and what it adds (31), the mean of the sheer (38), and the bow height before the forecastle is taken (39)
 unfoldable pub hullOf : Ship → Hull
 hullOf x = record {
   b = typeB x;
@@ -34,7 +34,7 @@ pub record FairHull (h : Hull) : Type 0 where
   pub length-least : 24000 ≤ h .length .0
   pub length-most : h .length .0 ≤ 365000
   pub block : h .block ≤ 12000
-  pub line : h .basis .line .0 ≤ 6000000
+  pub line : h .basis .line .0 ≤ 6400000
   pub floor : h .basis .floor ≤ 60000
   pub depth : h .depth .0 ≤ 60000
   pub deep : h .deep .0 ≤ 15000000

@@ -22,12 +22,12 @@ pub mark-quotient : (floor a t b : ℕ) → max floor (ceilDiv (max (a - t) b) 1
 unfolding summerMark
 mark-quotient floor a t b = floor-out floor (max (a - t) b) ∙ ceil-of (max (1000 * floor) (max (a - t) b)) 1000 (omega arith) (in-mm floor a t b)
 
--- more added, or less taken, never lowers the mark
-pub summer-rises : (floor a t c u b : ℕ) → a ≤ c → u ≤ t → summerMark floor a t b ≤ summerMark floor c u b
-summer-rises floor a t c u b p q =
+-- a higher floor, more added, or less taken, never lowers the mark
+pub summer-rises : (f g a t c u b : ℕ) → f ≤ g → a ≤ c → u ≤ t → summerMark f a t b ≤ summerMark g c u b
+summer-rises f g a t c u b k p q =
     let m = max (a - t) b in
     let n = max (c - u) b in
-    rw (← mark-quotient floor a t b, ← mark-quotient floor c u b) (omega (arith, ceil-lt m 1000 (omega arith), ceil-ge n 1000 (omega arith)))
+    rw (← mark-quotient f a t b, ← mark-quotient g c u b) (omega (arith, ceil-lt m 1000 (omega arith), ceil-ge n 1000 (omega arith)))
 
 -- the last rounding costs less than 1 mm
 under-one : (x : Frac) → whole (ceil x) <f x +f whole 1

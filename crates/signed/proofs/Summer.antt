@@ -30,7 +30,7 @@ with-depth : (f a t d : Frac) → plain f +s (plain a -s plain t) -s plain d ≈
 with-depth f a t d = omega arith
 
 -- S is at most L, so that 0.75-S/2L is above zero
-corrected-same : (x : Ship) → Sound x → corrected x ≈s plain (exactAddedTo x) -s plain (exactTakenFrom ordinaryRow x)
+corrected-same : (x : Ship) → Sound x → corrected x ≈s plain (exactAddedTo (basis x .exact) x) -s plain (exactTakenFrom ordinaryRow x)
 unfolding corrected exactAddedTo exactTakenFrom Before.exactAdded
 corrected-same x k =
     let l = x .length .0 in
@@ -55,7 +55,7 @@ signed-summer x k =
     let height = forecastleHouse x .height .0 in
     let sixth = sheerAt (x .sheer) 4 in
     let fp = sheerAt (x .sheer) 5 in
-    held (whole (basis x .floor)) (frac 1 1000) (exactAddedTo x) (exactTakenFrom ordinaryRow x)
+    held (whole (basis x .floor)) (frac 1 1000) (exactAddedTo (basis x .exact) x) (exactTakenFrom ordinaryRow x)
     (Bow.exactB1 l *f Bow.exactB2Above l m cb cwf +f whole (Bow.sheerTaken sixth lift))
     (Bow.exactB1 l *f Bow.exactB2Below l m cb cwf +f whole (Bow.sheerTaken sixth fp + Bow.forecastleTaken l part height))
     (corrected x) (bowOf x) (corrected-same x k) (bow-signed (x .sheer) l m cb cwf part height)

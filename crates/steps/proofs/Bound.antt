@@ -1,13 +1,12 @@
 -- Demand 2: the summer mark of every accepted ship is never below its exact value, and less than 1.1 mm above it.
--- What each rounding can cost adds up along the formula: 3.45 um up to what depth adds, 1 um in what it takes, 3.25 um in the houses' deduction, 2 um in sheer;
+-- What each rounding can cost adds up along the formula: 4.84 um up to what depth adds, of which the line of a B-60 ship has 1 um, 1 um in what it takes, 3.25 um in the houses' deduction, 2 um in sheer;
 -- 13 um in the bow's freeboard.
 -- Before the last rounding, to whole mm, 100 um would do (`summer-holds`).
 use Prim.Native.Nat.{_*_, _-_, _≤_}
 use native.Mathlib.Omega.{arith}
 use Rattle.whole.specs.Frac.{_-f_, whole, frac}
 use Rattle.whole.specs.Round.{Within, Below}
-use Rattle.whole.proofs.Pick.{by-cases}
-use Rattle.whole.proofs.Round.{loosen, exactly, below-sum}
+use Rattle.whole.proofs.Round.{loosen, below-sum}
 use Rattle.units.specs.Datum.{sheerAt}
 use Rattle.percentages.specs.declared.Row.the-variants.{Ordinary}
 use Rattle.percentages.specs.Table37.{ordinaryRow}
@@ -26,29 +25,24 @@ use Rattle.sheer.proofs.Bound.{sheer-within}
 use Rattle.bow.proofs.Bound.{bow-within}
 use Rattle.mark.specs.Summer.{Holds}
 use Rattle.mark.proofs.Bound.{summer-holds}
-use Rattle.steps.specs.Basis.{Basis, basisOf}
+use Rattle.basis.proofs.Laws.{line-within}
 use Rattle.steps.specs.Steps.{Sound, typeB, basis, coveredS, effectiveE, forecastleHouse, amidshipsRatio, coverReach, addedTo, takenFrom, bowOf, summerOf}
 use Rattle.steps.specs.Exact.{exactE, exactAddedTo, exactTakenFrom, exactBowOf, exactSummerOf}
-
--- the line that a type starts from is exact
-line-exact : (x : Ship) → Within (basis x .line) (basis x .exact) (whole 0)
-unfolding basisOf
-line-exact x = by-cases (λ (b : Basis). Within (b .line) (b .exact) (whole 0)) (typeB x) _ _ (λ t. exactly _) (λ t. exactly _)
 
 -- E is short by at most 2 um
 short : (x : Ship) → Below (effectiveE x) (exactE x) (whole 2)
 unfolding effectiveE exactE
 short x = effective-length-below (x .length .0) (housesOf x)
 
--- the corrected value, what is added less what is taken: never below the exact difference, and at most 9.7 um above it
-pub corrected-within : (x : Ship) → Sound x → Within (addedTo x - takenFrom ordinaryRow x) (exactAddedTo x -f exactTakenFrom ordinaryRow x) (frac 97 10)
+-- the corrected value, what is added less what is taken: never below the exact difference, and at most 11.1 um above it
+pub corrected-within : (x : Ship) → Sound x → Within (addedTo (basis x .line) x - takenFrom ordinaryRow x) (exactAddedTo (basis x .exact) x -f exactTakenFrom ordinaryRow x) (frac 111 10)
 unfolding addedTo takenFrom exactAddedTo exactTakenFrom
 corrected-within x k =
     let g = k .good in
     let l = x .length .0 in
     let w = short x in
     let r : coverReach x ≤ 2 * l = unfold coverReach in reach-most l (housesOf x) (g .houses) in
-    let a = loosen {f = frac 345 100} (omega arith) (added-within (line-exact x) (typeB x) l (x .depth .0) (counted (x .block)) (effectiveE x) (exactE x) (g .length-least) (omega arith) w) in
+    let a = loosen {f = frac 484 100} (omega arith) (added-within (line-within (x .kind) l) (typeB x) l (x .depth .0) (counted (x .block)) (effectiveE x) (exactE x) (g .length-least) (omega arith) w) in
     let d = loosen {f = frac 325 100} (omega arith) (deducted-below (each-row Ordinary .rising) (typeB x) (exactEffective l (forecastleHouse x)) l (effectiveE x) (exactE x) (g .length-least) w) in
     let t = below-sum (reduction-below l (x .depth .0) (amidshipsRatio x)) d in
     loosen (omega arith) (sheer-within (x .sheer) l (coveredS x) (coverReach x) (omega arith) r a t)
@@ -65,5 +59,5 @@ bow-freeboard-within x k =
 pub summer-bounded : (x : Ship) → Sound x → Holds (summerOf x) (exactSummerOf x)
 unfolding summerOf exactSummerOf
 summer-bounded x k =
-    summer-holds (basis x .floor) (addedTo x) (takenFrom ordinaryRow x) (exactAddedTo x) (exactTakenFrom ordinaryRow x)
+    summer-holds (basis x .floor) (addedTo (basis x .line) x) (takenFrom ordinaryRow x) (exactAddedTo (basis x .exact) x) (exactTakenFrom ordinaryRow x)
     (loosen (omega arith) (corrected-within x k)) (loosen (omega arith) (bow-freeboard-within x k))

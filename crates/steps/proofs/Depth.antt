@@ -3,6 +3,7 @@ use mathlib.Core.Path.{_≡_, refl, _∙_}
 use mathlib.Core.Bool.{Bool, false}
 use mathlib.Core.List.{List, [], _∷_}
 use Prim.Native.Nat.{ℕ, suc, _≤_, _<_}
+use native.Mathlib.Nat.{le-refl}
 use native.Mathlib.Omega.{arith}
 use lib.ListN.{length}
 use Rattle.whole.proofs.Pick.{pick-false}
@@ -37,9 +38,9 @@ ofDepth d x = record {
 }
 
 module _ (x : Ship) (d : ℕ) (p : x .depth .0 ≤ d) where
-  more-added : addedTo x ≤ addedTo (ofDepth d x)
+  more-added : (line : ℕ) → addedTo line x ≤ addedTo line (ofDepth d x)
   unfolding addedTo coveredS effectiveE Before.added
-  more-added = omega (arith, addition-rises (x .length .0) (x .depth .0) d p)
+  more-added line = omega (arith, addition-rises (x .length .0) (x .depth .0) d p)
 
   less-taken : (row : List ℕ) → takenFrom row (ofDepth d x) ≤ takenFrom row x
   unfolding takenFrom coveredS effectiveE forecastleHouse amidshipsRatio coverReach
@@ -49,7 +50,8 @@ module _ (x : Ship) (d : ℕ) (p : x .depth .0 ≤ d) where
   pub deeper-summer : summerOf x ≤ summerOf (ofDepth d x)
   unfolding summerOf bowOf forecastleHouse
   deeper-summer =
-      summer-rises (basis x .floor) (addedTo x) (takenFrom ordinaryRow x) (addedTo (ofDepth d x)) (takenFrom ordinaryRow (ofDepth d x)) (bowOf x) more-added (less-taken ordinaryRow)
+      let line = basis x .line in
+      summer-rises (basis x .floor) (basis x .floor) (addedTo line x) (takenFrom ordinaryRow x) (addedTo line (ofDepth d x)) (takenFrom ordinaryRow (ofDepth d x)) (bowOf x) (le-refl _) (more-added line) (less-taken ordinaryRow)
 
 -- ---- no house amidships, nothing taken
 none-that : (test : House → Bool) (hs : List House) → ((k : ℕ) → k < length hs → test (houseAt hs k) ≡ false) → houseThat test hs ≡ noHouse

@@ -1,3 +1,4 @@
 pub mod Bound
 pub mod Particulars
 pub mod Depth
+pub mod Types

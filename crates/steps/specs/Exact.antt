@@ -21,9 +21,9 @@ use Rattle.steps.specs.Steps.{typeB, coveredS, forecastleHouse, amidship
 unfoldable pub exactE : Ship → Frac
 exactE x = exactEffectiveLength (x .length .0) (housesOf x)
 
-unfoldable pub exactAddedTo : Ship → Frac
-exactAddedTo x =
-    Before.exactAdded (basis x .exact) (typeB x) (x .length .0) (x .depth .0) (counted (x .block)) (exactE x)
+unfoldable pub exactAddedTo : Frac → Ship → Frac
+exactAddedTo line x =
+    Before.exactAdded line (typeB x) (x .length .0) (x .depth .0) (counted (x .block)) (exactE x)
     +f Sheer.exactAdded (x .sheer) (x .length .0) (coveredS x)
 
 unfoldable pub exactTakenFrom : List ℕ → Ship → Frac
@@ -38,4 +38,4 @@ exactBowOf x =
     (partOf (x .length .0) (forecastleHouse x)) (forecastleHouse x .height .0)
 
 unfoldable pub exactSummerOf : Ship → Frac
-exactSummerOf x = exactSummer (basis x .floor) (exactAddedTo x) (exactTakenFrom ordinaryRow x) (exactBowOf x)
+exactSummerOf x = exactSummer (basis x .floor) (exactAddedTo (basis x .exact) x) (exactTakenFrom ordinaryRow x) (exactBowOf x)

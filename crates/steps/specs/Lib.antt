@@ -1,3 +1,2 @@
-pub mod Basis
 pub mod Steps
 pub mod Exact

@@ -2,12 +2,12 @@
 use Prim.Native.Nat.{ℕ, _+_, _≤_}
 use mathlib.Core.Bool.{Bool}
 use mathlib.Core.List.{List}
-use lib.Dec.{eqb}
 use Rattle.whole.specs.Frac.{Frac}
 use Rattle.units.specs.Datum.{sheerAt}
 use Rattle.percentages.specs.Table37.{ordinaryRow}
 use Rattle.ship.specs.declared.House.{House}
 use Rattle.ship.specs.declared.Ship.{Ship}
+use Rattle.ship.specs.Kinds.{kindCovers, isTypeB}
 use Rattle.ship.specs.Vessel.{housesOf}
 use Rattle.ship.specs.Good.{Good}
 use Rattle.houses.specs.Length.{partOf, coveredLength}
@@ -24,16 +24,16 @@ use Rattle.sheer.specs.Sheer as Sheer
 use Rattle.bow.specs.Bow.{bowFreeboard}
 use Rattle.mark.specs.declared.Particulars.{Particulars}
 use Rattle.mark.specs.Summer.{summerMark}
-use Rattle.steps.specs.Basis.{Basis, basisOf}
+use Rattle.basis.specs.Basis.{Basis, basisOf}
 
 -- a ship that the reader accepts
 pub record Sound (x : Ship) : Type 0 where
-  pub type : x .kind ≤ 1
+  pub type : x .kind ≤ kindCovers
   pub few : x .n ≤ 8
   pub good : Good x
 
 abbrev pub typeB : Ship → Bool
-typeB x = eqb (x .kind) 1
+typeB x = isTypeB (x .kind)
 
 -- houses (33-35): S in mm, E in um, the forecastle, the ratio of heights of 31's house amidships, and the reach of the cover in tenths of a mm
 unfoldable pub coveredS : Ship → ℕ
@@ -51,14 +51,14 @@ amidshipsRatio x = heightRatio (x .length .0) (amidshipsOf (x .length .0) (house
 unfoldable pub coverReach : Ship → ℕ
 coverReach x = reach (x .length .0) (housesOf x)
 
--- table (28), with 40's least freeboard
+-- what the type decides (27, 28): the line, with 40's least freeboard
 abbrev pub basis : Ship → Basis
-basis x = basisOf (typeB x) (x .length .0)
+basis x = basisOf (x .kind) (x .length .0)
 
--- what is added: the table, short B ships (29), fullness (30), depth (31) above L / 15, and sheer (38) where it is lacking; by the Cb that counts
-unfoldable pub addedTo : Ship → ℕ
-addedTo x =
-    Before.added (basis x .line) (typeB x) (x .length .0) (x .depth .0) (counted (x .block)) (effectiveE x)
+-- what is added to a line and with it: short B ships (29), fullness (30), depth (31) above L / 15, and sheer (38) where it is lacking; by the Cb that counts
+unfoldable pub addedTo : ℕ → Ship → ℕ
+addedTo line x =
+    Before.added line (typeB x) (x .length .0) (x .depth .0) (counted (x .block)) (effectiveE x)
     + Sheer.added (x .sheer) (x .length .0) (coveredS x)
 
 -- what is taken away: depth (31) below L / 15 with a house amidships, the houses' deduction (37) by a row of percentages, and sheer (38) in excess
@@ -74,10 +74,17 @@ bowOf x =
     bowFreeboard (x .length .0) (x .moulded .0) (counted (x .block)) (x .waterplane) (sheerAt (x .sheer) 4) (sheerAt (x .sheer) 5)
     (partOf (x .length .0) (forecastleHouse x)) (forecastleHouse x .height .0)
 
--- mark (40): up to whole mm, and at least the floor
-unfoldable pub summerOf : Ship → ℕ
-summerOf x = summerMark (basis x .floor) (addedTo x) (takenFrom ordinaryRow x) (bowOf x)
+-- mark (40), from a line: up to whole mm, and at least a floor
+abbrev pub summerBy : ℕ → ℕ → Ship → ℕ
+summerBy line floor x = summerMark floor (addedTo line x) (takenFrom ordinaryRow x) (bowOf x)
 
 -- what the other marks need of the ship besides S
+abbrev pub particularsBy : ℕ → Ship → Particulars
+particularsBy floor x = record { floor = floor; depth = x .depth; length = x .length; displacement = x .displacement; immersion = x .immersion }
+
+-- the ship's type gives the line and the floor
+unfoldable pub summerOf : Ship → ℕ
+summerOf x = summerBy (basis x .line) (basis x .floor) x
+
 unfoldable pub particularsOf : Ship → Particulars
-particularsOf x = record { floor = basis x .floor; depth = x .depth; length = x .length; displacement = x .displacement; immersion = x .immersion }
+particularsOf x = particularsBy (basis x .floor) x

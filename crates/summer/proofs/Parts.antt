@@ -54,4 +54,4 @@ bow-parts x =
 -- the sums by kind give E
 pub summer-parts : (x : Ship) → summerOn (hullOf x) (deckOf (x .length .0) (housesOf x)) ≡ summerOf x
 unfolding summerOn addedOn hullOf deckOf summerOf addedTo coveredS effectiveE coverReach Before.added Sheer.added Sheer.deducted
-summer-parts x = rw (effective-summed (x .length .0) (housesOf x)) (ap₂ (summerMark (basis x .floor) (addedTo x)) (taken-parts ordinaryRow x) (bow-parts x))
+summer-parts x = rw (effective-summed (x .length .0) (housesOf x)) (ap₂ (summerMark (basis x .floor) (addedTo (basis x .line) x)) (taken-parts ordinaryRow x) (bow-parts x))

@@ -135,6 +135,9 @@ ceil-zero x e = omega (arith, ceil-under {x = x} 0 (omega arith))
 pub floor-zero : (x : Frac) → x .top ≡ 0 → floor x ≡ 0
 floor-zero x e = omega (arith, floor-under {x = x} 0 (omega arith))
 
+pub ceil-mono : (x y : Frac) → x ≤f y → ceil x ≤ ceil y
+ceil-mono x y h = ceil-under (ceil y) (trans≤ h (by-ceil y .above))
+
 pub floor-mono : (x y : Frac) → x ≤f y → floor x ≤ floor y
 floor-mono x y h =
     let t : x .top / x .bot < y .top / y .bot + 1 =

@@ -1,7 +1,7 @@
 -- Each field is what the contract of its own call says.
-use lib.Dec.{eqb}
 use native.Mathlib.Omega.{arith}
 use borrow.Author.Needs.{needs}
+use Rattle.ship.specs.Kinds.{isTypeB}
 use Rattle.hull.specs.Parts.{hullOf}
 use Rattle.hull.proofs.hull_of.Statement.{statement}
 use Rattle.hull.proofs.hull_of.Tie as tie
@@ -29,7 +29,7 @@ hull-of-spec =
     let above = rw (k .counted-block .ensures .0) at (c .asked .ensures .0 .0) in
     let below = rw (k .counted-block .ensures .0) at (c .asked .ensures .0 .1) in (
       λ i. record {
-        b = eqb (x .kind) 1;
+        b = isTypeB (x .kind);
         length = x .length;
         block = k .counted-block .ensures .0 i;
         basis = record { line = record { 0 = t .basis-of .ensures .0 .0 i }; floor = t .basis-of .ensures .0 .1 i };

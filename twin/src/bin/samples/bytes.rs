@@ -1,9 +1,9 @@
 //! Records as bytes, whole or damaged.
 
 use twin::bits;
-use twin::record::{self, RawShip};
+use twin::record::{self, RawShip, Version};
 
-/// First bit of the fields that are changed in place.
+/// First bit of the fields that are changed in place, in version 1.
 pub const VERSION: usize = 0;
 pub const KIND: usize = 4;
 pub const COUNT: usize = 6;
@@ -11,9 +11,14 @@ pub const SPARE: usize = 10;
 /// Spare bits of a house, from the start of its eight bytes.
 pub const HOUSE_SPARE: usize = 57;
 
+/// In the lowest version that holds the ship.
 pub fn packed(raw: &RawShip) -> Vec<u8> {
+    packed_as(Version::lowest(raw.kind), raw)
+}
+
+pub fn packed_as(version: Version, raw: &RawShip) -> Vec<u8> {
     let mut bytes = vec![0; record::record_bytes(raw.n as usize)];
-    record::pack(&mut bytes, raw);
+    record::pack_as(version, &mut bytes, raw);
     bytes
 }
 

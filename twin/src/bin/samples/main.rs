@@ -3,9 +3,11 @@
 //!
 //! Each makes DIR/data/NAME for every case, DIR/args with the names in order, and DIR/stdout with
 //! one line for each. `samples slips` shows which cases of the marks a slip in a step would change,
-//! and how many cases of each call a slip in the check of the houses would.
+//! and how many cases of each call a slip in the check of the houses, or about types and versions,
+//! would.
 
 mod bytes;
+mod heads;
 mod lists;
 mod marks;
 mod questions;
@@ -86,7 +88,13 @@ fn slips() -> String {
         ("marks", &marks.lists),
         ("questions", &questions::cases().lists),
     ]);
-    format!("{}\n{lists}", marks.slips())
+    let heads = heads::slips::shown(&[
+        ("records", &records::cases().heads),
+        ("writes", &writes::cases().heads),
+        ("marks", &marks.heads),
+        ("questions", &questions::cases().heads),
+    ]);
+    format!("{}\n{lists}\n{heads}", marks.slips())
 }
 
 fn main() -> ExitCode {

@@ -1,13 +1,16 @@
 //! Questions for the shortest poop: height and wish, then the record. The line is the poop's length
-//! in dm, or one of refusals 1 to 11, 18, and 14 to 16.
+//! in dm, or one of refusals 1 to 11, 18, 22, and 14 to 16.
 
 use crate::bytes::{over, packed, resized, COUNT, KIND, SPARE, VERSION};
+use crate::heads::{self, slips::Heads};
 use crate::lists::{self, slips::Lists};
-use crate::ships::{decked, extremes, house, k1, k2, open, plain, quarterdeck, with, KINDS};
+use crate::ships::{
+    bulk, decked, extremes, forecastle, house, k1, k2, open, plain, quarterdeck, with, KINDS, TYPES,
+};
 use crate::{refused, slips, Sample};
 use twin::marks;
 use twin::question::{shortest_poop, summer_with_poop};
-use twin::record::{self, House, RawShip, Ship, MAX_HOUSES};
+use twin::record::{self, House, Kind, RawShip, Ship, MAX_HOUSES};
 use twin::refusal::Refusal;
 
 /// What a case is there for.
@@ -31,6 +34,7 @@ pub struct Questions {
     /// Ship, height, wish and answer of each case that gets as far as the search.
     searched: Vec<(Ship, u64, u64, Result<i64, Refusal>)>,
     pub lists: Lists,
+    pub heads: Heads,
 }
 
 impl Questions {
@@ -57,10 +61,18 @@ impl Questions {
         {
             self.searched.push((ship, height, wish, answer));
         }
+        self.heads.question(&record, height, wish, &line);
         let mut data = height.to_be_bytes().to_vec();
         data.extend(wish.to_be_bytes());
         data.extend(record);
         self.samples.push(Sample::new(name, data, line, refusal));
+    }
+
+    fn told_by(&self, slip: Slip) -> usize {
+        let told = self.searched.iter().filter(|(ship, height, wish, answer)| {
+            search_with(slip, ship, *height, *wish) != *answer
+        });
+        told.count()
     }
 
     fn ship(&mut self, name: &str, expected: Expected, height: u64, wish: u64, raw: &RawShip) {
@@ -94,13 +106,15 @@ pub fn cases() -> Questions {
     nothing_fits(&mut all);
     order(&mut all);
     lists(&mut all);
+    types(&mut all);
+    wishes_about_the_floor(&mut all);
+    types_and_versions(&mut all);
     for slip in SLIPS {
-        let told = all.searched.iter().filter(|(ship, height, wish, answer)| {
-            search_with(slip, ship, *height, *wish) != *answer
-        });
-        assert!(told.count() >= 2, "too few cases tell {slip:?}");
+        let told = all.told_by(slip);
+        assert!(told >= 3, "too few cases tell {slip:?}: {told}");
     }
     all.lists.enough("questions");
+    all.heads.enough("questions");
     all
 }
 
@@ -338,7 +352,7 @@ fn order(all: &mut Questions) {
     let record = packed(&k2());
     for (number, place, bytes) in [
         (1, 0, resized(record.clone(), 26)),
-        (2, 0, over(record.clone(), VERSION, 4, 2)),
+        (2, 0, over(record.clone(), VERSION, 4, 3)),
         (3, 0, over(record.clone(), KIND, 2, 2)),
         (4, 0, over(resized(packed(&extremes()), 99), COUNT, 4, 9)),
         (5, 0, resized(record.clone(), 36)),
@@ -386,6 +400,79 @@ fn lists(all: &mut Questions) {
     all.ship("18-before-15-eight-houses", Refused(18, 1), 1_950, 60_000, &with(k1(), &eight));
 }
 
+/// The ship of 120 m as every type: its own mark, one less, and what a poop of 30 m gives.
+fn types(all: &mut Questions) {
+    for (kind, name) in (0..).zip(TYPES) {
+        let raw = RawShip { kind, ..bulk() };
+        let own = mark(&raw, 2_300, 0).expect("marks without a poop");
+        let longer = mark(&raw, 2_300, 300).expect("marks with a poop of 30 m");
+        all.ship(&format!("{name}-wish-{own}"), Poop(0), 2_300, own, &raw);
+        all.ship(&format!("{name}-wish-{}", own - 1), Longer, 2_300, own - 1, &raw);
+        all.ship(&format!("{name}-wish-{longer}-by-a-poop"), Longer, 2_300, longer, &raw);
+    }
+    // Without a forecastle nothing is deducted but for type A, however long the poop; all of L is one.
+    for (kind, name) in (0..).zip(TYPES) {
+        let raw = with(RawShip { kind, moulded: 3_000, ..bulk() }, &[]);
+        let least = mark(&raw, 2_300, 1_200).expect("marks with a poop of all the length");
+        let wish = least + 300;
+        let expected = if kind == 0 { Longer } else { Poop(1_200) };
+        all.ship(&format!("{name}-no-forecastle-wish-{wish}"), expected, 2_300, wish, &raw);
+    }
+}
+
+/// No mark with portable covers is below 150; a wish below that is not refused for its range.
+fn wishes_about_the_floor(all: &mut Questions) {
+    let low = |kind, length: u64| {
+        let depth = length / 15 - 60;
+        let raw = RawShip { depth, moulded: 2_000, cwf: 10_000, cb: 6_800, ..plain(kind, length) };
+        with(raw, &[forecastle(length)])
+    };
+    for (length, name) in [(40_000, "40-m"), (64_000, "64-m")] {
+        let raw = low(4, length);
+        for (wish, expected) in [
+            (49, Refused(14, 0)),
+            (50, Refused(16, 0)),
+            (149, Refused(16, 0)),
+            (150, Longer),
+            (151, Longer),
+        ] {
+            all.ship(&format!("covers-{name}-wish-{wish}"), expected, 2_000, wish, &raw);
+        }
+        all.ship(&format!("b-{name}-wish-149"), Longer, 2_000, 149, &low(1, length));
+    }
+    let long = RawShip { depth: 4_000, ..low(4, 110_000) };
+    all.ship("covers-110-m-wish-149", Refused(16, 0), 2_300, 149, &long);
+    all.ship("covers-110-m-wish-150", Longer, 2_300, 150, &long);
+    let reduced = RawShip { kind: 2, ..long };
+    all.ship("b60-110-m-wish-149", Longer, 2_300, 149, &reduced);
+    all.ship("b100-110-m-wish-50", Longer, 2_300, 50, &RawShip { kind: 3, ..reduced });
+}
+
+/// Records about types and versions, asked for what a poop of 5 m gives, and what comes after 22.
+fn types_and_versions(all: &mut Questions) {
+    for case in heads::cases() {
+        let (expected, wish) = match (case.expected, record::read(&case.bytes)) {
+            (None, Ok(ship)) if ship.houses.len() < MAX_HOUSES => {
+                let raw = ship.raw();
+                let wish = mark(&raw, 2_000, 50).expect("marks with a poop of 5 m");
+                let met = mark(&raw, 2_000, 0).is_some_and(|mark| mark <= wish);
+                (if met { Poop(0) } else { Longer }, wish)
+            }
+            (None, _) => (Refused(15, 0), 60_000),
+            (Some(refusal), _) => (Exactly(refusal), 60_000),
+        };
+        all.bytes(&case.name, expected, 2_000, wish, case.bytes);
+    }
+    for (kind, length) in [(2, 100_000), (3, 90_000), (4, 200_001)] {
+        let raw = heads::of_length(kind, length);
+        let stern = with(raw.clone(), &[house(0, 9_000, 2_000), raw.houses[0]]);
+        let expected = Refused(22, 0);
+        all.ship(&format!("22-before-14-type-{kind}"), expected, 0, 1_000, &raw);
+        all.ship(&format!("22-before-15-type-{kind}"), expected, 2_000, 1_000, &stern);
+        all.ship(&format!("22-before-16-type-{kind}"), expected, 2_000, 50, &raw);
+    }
+}
+
 /// Plausible slips in the search.
 #[derive(Clone, Copy, Debug, PartialEq)]
 enum Slip {
@@ -423,9 +510,21 @@ enum Slip {
     PoopWholeReduction,
     /// With a poop no other house is the house amidships.
     PoopAloneAmidships,
+    /// With a poop every type but A is asked as B.
+    AsksAsB,
+    /// With a poop B-100 is asked as A.
+    AsksAsA,
+    /// The rule on the forecastle is left out with a poop.
+    PoopAsForecastle,
+    /// The floor of portable covers is 50 in the search.
+    LowerFloor,
+    /// The floor of every type is 150 in the search.
+    GreaterFloor,
+    /// A wish below 150 on a ship with portable covers is 14.
+    WishByFloor,
 }
 
-const SLIPS: [Slip; 17] = [
+const SLIPS: [Slip; 23] = [
     Slip::StopsAtRise,
     Slip::Halves,
     Slip::SkipsZero,
@@ -443,6 +542,12 @@ const SLIPS: [Slip; 17] = [
     Slip::PoopEarlyAmidships,
     Slip::PoopWholeReduction,
     Slip::PoopAloneAmidships,
+    Slip::AsksAsB,
+    Slip::AsksAsA,
+    Slip::PoopAsForecastle,
+    Slip::LowerFloor,
+    Slip::GreaterFloor,
+    Slip::WishByFloor,
 ];
 
 /// The slip in the marks that it comes to at this length.
@@ -455,6 +560,9 @@ fn in_marks(slip: Slip, ship: &Ship, k: i64) -> Option<slips::Slip> {
         Slip::PoopEarlyAmidships if k == middle / 500 => Some(slips::Slip::ReductionMiddle),
         Slip::PoopWholeReduction if poop >= middle => Some(slips::Slip::ReductionWhole),
         Slip::PoopAloneAmidships if k > 0 => Some(slips::Slip::ReductionFirst),
+        Slip::PoopAsForecastle if k > 0 => Some(slips::Slip::DeductAlways),
+        Slip::LowerFloor => Some(slips::Slip::CoversFloorNever),
+        Slip::GreaterFloor => Some(slips::Slip::FloorEvery),
         _ => None,
     }
 }
@@ -467,12 +575,17 @@ fn mark_with(slip: Slip, ship: &Ship, height: u64, k: i64) -> Option<i64> {
         longer.houses = ship.houses.after(House { quarterdeck, ..house(0, 100 * k, height) });
     }
     record::check_houses(longer.length, &longer.houses).ok()?;
+    longer.kind = match (slip, ship.kind) {
+        (Slip::AsksAsB, Kind::B60 | Kind::B100 | Kind::Covers) if k > 0 => Kind::B,
+        (Slip::AsksAsA, Kind::B100) if k > 0 => Kind::A,
+        (_, kind) => kind,
+    };
     let touches = k > 0 && ship.houses.first().is_some_and(|first| first.aft == 100 * k);
     if slip == Slip::NoTouching && touches {
         return None;
     }
     if let Some(slip) = in_marks(slip, ship, k) {
-        return slips::marks(&longer, Some(slip)).ok().map(|marks| marks.summer);
+        return slips::worked(&longer, Some(slip)).ok().map(|marks| marks.summer);
     }
     let refused = marks::marks(&longer).is_err() && slip != Slip::TakesRefused;
     (!refused).then(|| marks::steps(&longer).summer)
@@ -487,6 +600,9 @@ fn search_with(slip: Slip, ship: &Ship, height: u64, wish: u64) -> Result<i64, R
         None => false,
     };
     let nothing = Refusal::at(Refusal::NOTHING_FITS, 0);
+    if slip == Slip::WishByFloor && ship.kind == Kind::Covers && wish < 150 {
+        return Err(Refusal::at(Refusal::ASKED, 0));
+    }
     let full = ship.houses.len() == MAX_HOUSES;
     if full || ship.houses.first().is_some_and(|first| first.aft <= 0) {
         return match slip == Slip::ZeroNeedsNoRoom && fits(0) {

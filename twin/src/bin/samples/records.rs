@@ -1,23 +1,28 @@
-//! Records to read: the line is the refusal, or the ship and that it comes back.
+//! Records to read: the line is the refusal, or the ship and that it comes back or as what.
 
-use crate::bytes::{over, packed, resized, COUNT, HOUSE_SPARE, KIND, SPARE, VERSION};
+use crate::bytes::{over, packed, packed_as, resized, COUNT, HOUSE_SPARE, KIND, SPARE, VERSION};
+use crate::heads::{self, slips::Heads};
 use crate::lists::{self, slips::Lists};
 use crate::ships::{extremes, house, k1, k2, three_houses, with};
 use crate::{overlap, refused, Expected, Sample};
 use twin::random::Random;
-use twin::record::{self, House, RawShip};
+use twin::record::{self, House, RawShip, Version};
 use twin::report;
 
 #[derive(Default)]
 pub struct Records {
     pub samples: Vec<Sample>,
     pub lists: Lists,
+    pub heads: Heads,
 }
 
 impl Records {
     fn bytes(&mut self, name: &str, expected: Expected, bytes: Vec<u8>) {
         let line = report::record_line(&bytes);
-        assert!(expected.is_some() || line.ends_with(" back"), "{name}: {line}");
+        self.heads.read(&bytes, &line);
+        let lowest = bytes.first().is_some_and(|first| first >> 4 == 1)
+            || record::read(&bytes).is_ok_and(|ship| ship.kind as u64 > 1);
+        assert!(expected.is_some() || line.ends_with(" back") == lowest, "{name}: {line}");
         self.samples.push(Sample::new(name, bytes, line, expected));
     }
 
@@ -42,7 +47,9 @@ pub fn cases() -> Records {
     order_of_houses(&mut all);
     priorities(&mut all);
     lists(&mut all);
+    types_and_versions(&mut all);
     all.lists.enough("records");
+    all.heads.enough("records");
     all
 }
 
@@ -74,9 +81,10 @@ fn header(all: &mut Records) {
     all.bytes("nine-houses-99-bytes", refused(4, 0), nine);
     all.bytes("nine-houses-91-bytes", refused(4, 0), over(eight, COUNT, 4, 9));
     all.bytes("fifteen-houses-27-bytes", refused(4, 0), over(packed(&k1()), COUNT, 4, 15));
-    for version in [0, 2, 15] {
+    for (version, number) in [(0, 2), (2, 5), (15, 2)] {
+        // By the head of version 2 it has two houses.
         let bytes = over(packed(&k2()), VERSION, 4, version);
-        all.bytes(&format!("version-{version}"), refused(2, 0), bytes);
+        all.bytes(&format!("version-{version}"), refused(number, 0), bytes);
     }
     for kind in [2, 3] {
         all.bytes(&format!("type-{kind}"), refused(3, 0), over(packed(&k2()), KIND, 2, kind));
@@ -206,6 +214,27 @@ fn priorities(all: &mut Records) {
     all.houses("10-at-house-0-before-11-at-house-1", refused(10, 0), &[open_deck, overlapping]);
     let late = House { quarterdeck: true, ..house(30_000, 40_000, 1_200) };
     all.houses("10-at-house-2-before-11-at-house-1", refused(10, 2), &[poop, overlapping, late]);
+}
+
+/// Records about types and versions, and ships of every type that comes back.
+fn types_and_versions(all: &mut Records) {
+    for case in heads::cases() {
+        all.bytes(&case.name, case.expected, case.bytes);
+    }
+    let mut random = Random::new(1969);
+    for kind in 2..=4 {
+        let raw = random.ship_of(kind, kind as usize + 1);
+        all.ship(&format!("type-{kind}-houses-{}", raw.n), None, &raw);
+    }
+    for (kind, n) in [(0, 5), (1, 8)] {
+        let raw = RawShip { kind, ..random.ship(n) };
+        let bytes = packed_as(Version::Two, &raw);
+        all.bytes(&format!("version-2-type-{kind}-houses-{n}"), None, bytes);
+    }
+    let most = RawShip { kind: 3, ..extremes() };
+    all.ship("version-2-extreme-values", None, &most);
+    let bytes = packed_as(Version::Two, &extremes());
+    all.bytes("version-2-type-0-extreme-values", None, bytes);
 }
 
 /// Lists about refusals 11 and 18, and what comes before either.

@@ -31,6 +31,21 @@ pub fn k2() -> RawShip {
     with(k1(), &[house(80_000, 90_000, 2_000)])
 }
 
+/// Type B, 120 m, with a forecastle: the ship that the figures of all five types are stated for.
+pub fn bulk() -> RawShip {
+    let raw = RawShip {
+        kind: 1,
+        length: 120_000,
+        depth: 8_000,
+        moulded: 8_000,
+        cb: 6_800,
+        cwf: 8_000,
+        sheer: [1250, 555, 140, 280, 1110, 2500],
+        ..RawShip::default()
+    };
+    with(raw, &[house(110_000, 120_000, 2_300)])
+}
+
 /// k1 with a raised quarterdeck, an open bridge and a forecastle, and certified.
 pub fn three_houses() -> RawShip {
     let houses = [
@@ -69,6 +84,8 @@ pub fn extremes() -> RawShip {
 }
 
 pub const KINDS: [(u64, char); 2] = [(0, 'a'), (1, 'b')];
+/// All five, by their number.
+pub const TYPES: [&str; 5] = ["a", "b", "b60", "b100", "covers"];
 
 /// Not enclosed.
 pub fn open(house: House) -> House {

@@ -3,7 +3,7 @@
 //! The working below is the steps once more, with at most one slip in it. It is in i128: what fits an
 //! i64 when worked rightly need not fit with a slip.
 
-use twin::marks::{standard_height, tabular, Marks};
+use twin::marks::{self, increase, standard_height, tabular, Marks};
 use twin::record::{House, Kind, Ship, MAX_HOUSES};
 use twin::refusal::Refusal;
 
@@ -177,6 +177,43 @@ slips! {
     MeanToZeroPart 38 "mean toward zero where forward excess counts in part",
     MeanAboveMinusOne 38 "mean between -1 and 0 um taken as 0",
     AddedByCover 38 "nothing added where no house stands amidships",
+    ReducedDown 27 "line of B-60 down",
+    ReducedNearest 27 "line of B-60 to the nearest um",
+    ReducedMm 27 "line of B-60 up to mm",
+    ReducedRows 27 "line of B-60 between rows in whole mm",
+    ReducedForty 27 "B-60 less 40 per cent",
+    ReducedOfA 27 "B-60 less 60 per cent of A",
+    ReducedOfB 27 "B-60 less 60 per cent of B",
+    ReducedHundred 27 "B-60 less 100 per cent",
+    ReducedNever 27 "B-60 not reduced",
+    HundredSixty 27 "B-100 less 60 per cent",
+    HundredNever 27 "B-100 not reduced",
+    ReducedAfterFullness 27 "B-60 reduced after 30",
+    HundredAfterFullness 27 "B-100 reduced after 30",
+    CoversNever 27 "no increase",
+    CoversOnB 27 "increase for B too",
+    CoversOnReduced 27 "increase for B-60 and B-100 too",
+    CoversOnA 27 "increase over table 28.1",
+    CoversAfterFullness 27 "increase after 30",
+    CoversAfterBow 27 "increase after the bow height",
+    CoversSloping 27 "increase linear below 108 m too",
+    CoversLongOnly 27 "no increase below 108 m",
+    CoversRowBelow 27 "increase of the row below, not linear",
+    CoversRowAbove 27 "increase of the row above, not linear",
+    CoversRowNearest 27 "increase of the nearest row, not linear",
+    CoversRowNext 27 "increase one row on",
+    CoversMm 27 "increase up to mm",
+    ShortNotCovers 29 "no addition with portable covers",
+    DeductB60Always 37 "B-60 without a forecastle gets it",
+    DeductB100Always 37 "B-100 without a forecastle gets it",
+    DeductCoversAlways 37 "portable covers without a forecastle get it",
+    DeductOnlyB 37 "the forecastle's rule for B alone",
+    CoversFloorNever 40 "S and T with portable covers from 50",
+    CoversFloorSummer 40 "T with portable covers from 50",
+    CoversFloorTropical 40 "S with portable covers from 50",
+    CoversFloorFresh 40 "F and TF with portable covers at least 150",
+    FloorEvery 40 "S and T of every type at least 150",
+    FloorEveryB 40 "S and T of every kind of B at least 150",
 }
 
 fn down(number: i128, divisor: i128) -> i128 {
@@ -195,6 +232,11 @@ fn added((a, b): (i128, i128), (c, d): (i128, i128)) -> (i128, i128) {
     }
 }
 
+/// Table 28.1 or 28.2, um.
+fn rows(kind: Kind, length: i64) -> i128 {
+    tabular(kind, length).into()
+}
+
 /// Houses that touch made one, of the height of the first.
 fn join(houses: &mut Vec<House>) {
     houses.dedup_by(|house, before| {
@@ -207,13 +249,13 @@ fn join(houses: &mut Vec<House>) {
 }
 
 /// The marks, with a slip or none.
-pub fn marks(ship: &Ship, slip: Option<Slip>) -> Result<Marks, Refusal> {
+pub fn worked(ship: &Ship, slip: Option<Slip>) -> Result<Marks, Refusal> {
     Working { ship, slip, l: ship.length.into() }.marks()
 }
 
 /// Whether the slip changes the ship's marks.
 pub fn tells(ship: &Ship, slip: Slip) -> bool {
-    marks(ship, Some(slip)) != marks(ship, None)
+    worked(ship, Some(slip)) != worked(ship, None)
 }
 
 struct Working<'a> {
@@ -266,7 +308,11 @@ impl Working<'_> {
         };
         Refusal::unless(!over, Refusal::FRESH_ALLOWANCE)?;
         let low = summer - self.down(d, 48, Slip::TropicalUp);
-        let tropical = if self.has(Slip::TropicalFloorNever) { low } else { low.max(50) };
+        let tropical = match self.slip {
+            Some(Slip::TropicalFloorNever) => low,
+            Some(Slip::CoversFloorSummer) => low.max(50),
+            _ => low.max(self.floor()),
+        };
         let winter = summer + self.up(d, 48, Slip::WinterDown);
         let addition = match self.slip {
             Some(Slip::NorthAtlanticAlways) => 50,
@@ -274,7 +320,11 @@ impl Working<'_> {
             Some(Slip::NorthAtlanticStrict) => 50 * i128::from(self.l < 100_000),
             _ => 50 * i128::from(self.l <= 100_000),
         };
-        let least = if self.has(Slip::FreshFloor) { 50 } else { i128::MIN };
+        let least = match self.slip {
+            Some(Slip::FreshFloor) => 50,
+            Some(Slip::CoversFloorFresh) if ship.kind == Kind::Covers => 150,
+            _ => i128::MIN,
+        };
         let tropical_fresh = if self.has(Slip::TropicalFreshEarly) { low } else { tropical };
         Ok(Marks {
             summer: summer as i64,
@@ -288,19 +338,32 @@ impl Working<'_> {
 
     fn summer(&self) -> i128 {
         let bow = if self.has(Slip::BowNever) { i128::MIN } else { self.bow() };
-        let freeboard = match self.has(Slip::ReductionAfterBow) {
-            true => self.corrected().max(bow) - self.reduction(),
-            false => self.corrected().max(bow),
+        let freeboard = match self.slip {
+            Some(Slip::ReductionAfterBow) => self.corrected().max(bow) - self.reduction(),
+            Some(Slip::CoversAfterBow) if self.ship.kind == Kind::Covers => {
+                self.corrected().max(bow) + self.increase()
+            }
+            _ => self.corrected().max(bow),
         };
         let mark = match self.slip {
             Some(Slip::MarkDown) => down(freeboard, 1000),
             Some(Slip::MarkNearest) => down(freeboard + 500, 1000),
             _ => up(freeboard, 1000),
         };
-        if self.has(Slip::FloorNever) {
-            mark
-        } else {
-            mark.max(50)
+        match self.slip {
+            Some(Slip::FloorNever) => mark,
+            Some(Slip::CoversFloorTropical) => mark.max(50),
+            _ => mark.max(self.floor()),
+        }
+    }
+
+    /// 40(2) and (4)
+    fn floor(&self) -> i128 {
+        match self.slip {
+            Some(Slip::CoversFloorNever) => 50,
+            Some(Slip::FloorEvery) => 150,
+            Some(Slip::FloorEveryB) if self.ship.kind != Kind::A => 150,
+            _ => marks::floor(self.ship.kind).into(),
         }
     }
 
@@ -411,14 +474,14 @@ impl Working<'_> {
     fn corrected(&self) -> i128 {
         let (covered, effective) = (self.covered(), self.effective_sum());
         let (depth, reduction) = (self.depth(), self.reduction());
-        let table = self.table();
+        let (table, later) = self.table();
         let short =
             self.short_b(if self.has(Slip::ShortCovered) { 1000 * covered } else { effective });
         let added = match self.slip {
             Some(Slip::FullnessTable) => self.fullness(table) + short + depth,
             Some(Slip::FullnessDepth) => self.fullness(table + short + depth),
             Some(Slip::FullnessReduction) => self.fullness(table + short - reduction) + depth,
-            _ => self.fullness(table + short) + depth,
+            _ => self.fullness(table + short) + later + depth,
         };
         let reduced = match self.slip {
             Some(Slip::FullnessReduction | Slip::ReductionAfterBow) => added,
@@ -440,24 +503,85 @@ impl Working<'_> {
             })
     }
 
-    /// 28
-    fn table(&self) -> i128 {
-        let kind = match (self.ship.kind, self.has(Slip::OtherTable)) {
-            (Kind::A, false) | (Kind::B, true) => Kind::A,
-            _ => Kind::B,
-        };
+    /// 27 and 28: the type's line, and what a slip adds to the freeboard after 30.
+    fn table(&self) -> (i128, i128) {
         let length = match self.slip {
             Some(Slip::RowBelow) => self.ship.length / 1000 * 1000,
             Some(Slip::RowNearest) => (self.ship.length + 500) / 1000 * 1000,
             _ => self.ship.length,
         };
-        tabular(kind, length).into()
+        let (a, b) = match self.has(Slip::OtherTable) {
+            true => (rows(Kind::B, length), rows(Kind::A, length)),
+            false => (rows(Kind::A, length), rows(Kind::B, length)),
+        };
+        let line = match (self.ship.kind, self.slip) {
+            (Kind::B, Some(Slip::CoversOnB)) => b + self.increase(),
+            (Kind::B60, Some(Slip::CoversOnReduced)) => self.reduced(a, b) + self.increase(),
+            (Kind::B100, Some(Slip::CoversOnReduced)) => a + self.increase(),
+            (Kind::B60, Some(Slip::ReducedAfterFullness)) => return (b, self.reduced(a, b) - b),
+            (Kind::B100, Some(Slip::HundredAfterFullness)) => return (b, a - b),
+            (Kind::B100, Some(Slip::HundredNever)) => b,
+            (Kind::B100, Some(Slip::HundredSixty)) => self.reduced(a, b),
+            (Kind::Covers, Some(Slip::CoversNever | Slip::CoversAfterBow)) => b,
+            (Kind::Covers, Some(Slip::CoversAfterFullness)) => return (b, self.increase()),
+            (Kind::Covers, Some(Slip::CoversOnA)) => a + self.increase(),
+            (Kind::Covers, _) => b + self.increase(),
+            (Kind::B60, _) => self.reduced(a, b),
+            (Kind::A | Kind::B100, _) => a,
+            (Kind::B, _) => b,
+        };
+        (line, 0)
+    }
+
+    /// 27(9): B less 60 per cent of the difference.
+    fn reduced(&self, a: i128, b: i128) -> i128 {
+        let fifths = 2 * b + 3 * a;
+        match self.slip {
+            Some(Slip::ReducedDown) => down(fifths, 5),
+            Some(Slip::ReducedNearest) => down(2 * fifths + 5, 10),
+            Some(Slip::ReducedMm) => 1000 * up(fifths, 5000),
+            Some(Slip::ReducedRows) => {
+                let row = |metres: i64| {
+                    let length = (1000 * metres).min(365_000);
+                    up(2 * rows(Kind::B, length) + 3 * rows(Kind::A, length), 5000)
+                };
+                let (metres, beyond) = (self.ship.length / 1000, self.l % 1000);
+                1000 * row(metres) + (row(metres + 1) - row(metres)) * beyond
+            }
+            Some(Slip::ReducedForty) => up(3 * b + 2 * a, 5),
+            Some(Slip::ReducedOfA) => up(5 * b - 3 * a, 5),
+            Some(Slip::ReducedOfB) => up(2 * b, 5),
+            Some(Slip::ReducedHundred) => a,
+            Some(Slip::ReducedNever) => b,
+            _ => up(fifths, 5),
+        }
+    }
+
+    /// 27(6): table 27.1.
+    fn increase(&self) -> i128 {
+        let length = self.ship.length;
+        let of = |length| i128::from(increase(length));
+        match self.slip {
+            // The first two rows are 50 and 52 mm.
+            Some(Slip::CoversSloping) if length < 108_000 => 50_000 - 2 * (108_000 - self.l),
+            Some(Slip::CoversLongOnly) if length < 108_000 => 0,
+            Some(Slip::CoversRowBelow) => of(length / 1000 * 1000),
+            Some(Slip::CoversRowAbove) => of((length + 999) / 1000 * 1000),
+            Some(Slip::CoversRowNearest) => of((length + 500) / 1000 * 1000),
+            Some(Slip::CoversRowNext) => of(length + 1000),
+            Some(Slip::CoversMm) => 1000 * up(of(length), 1000),
+            _ => of(length),
+        }
     }
 
     /// 29
     fn short_b(&self, effective: i128) -> i128 {
         let l = self.l;
-        let type_b = self.ship.kind == Kind::B || self.has(Slip::ShortForA);
+        let type_b = match (self.ship.kind, self.slip) {
+            (Kind::A, slip) => slip == Some(Slip::ShortForA),
+            (Kind::Covers, Some(Slip::ShortNotCovers)) => false,
+            _ => true,
+        };
         let short = l < 100_000 || self.has(Slip::ShortOver100);
         let few = effective < 350 * l || self.has(Slip::ShortLongHouses);
         if type_b && short && few && !self.has(Slip::ShortNever) {
@@ -509,7 +633,7 @@ impl Working<'_> {
             Some(Slip::ReductionAbove) => lack.abs(),
             Some(Slip::ReductionFifteenth) => (lack - self.l % 15).max(0),
             Some(Slip::ReductionForecastle)
-                if ship.kind == Kind::B && self.forecastle().is_none() =>
+                if ship.kind != Kind::A && self.forecastle().is_none() =>
             {
                 0
             }
@@ -605,11 +729,16 @@ impl Working<'_> {
                 _ => um >= 70 * l * parts,
             }
         });
-        let gets = match self.slip {
-            Some(Slip::DeductAlways) => true,
-            Some(Slip::DeductForecastleA) => long_enough,
-            _ => self.ship.kind == Kind::A || long_enough,
+        let asked = match (self.slip, self.ship.kind) {
+            (Some(Slip::DeductAlways), _)
+            | (Some(Slip::DeductB60Always), Kind::B60)
+            | (Some(Slip::DeductB100Always), Kind::B100)
+            | (Some(Slip::DeductCoversAlways), Kind::Covers)
+            | (Some(Slip::DeductOnlyB), Kind::B60 | Kind::B100 | Kind::Covers) => false,
+            (Some(Slip::DeductForecastleA), _) => true,
+            (_, kind) => kind != Kind::A,
         };
+        let gets = !asked || long_enough;
         if !gets {
             return 0;
         }

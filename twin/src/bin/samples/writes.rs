@@ -1,7 +1,8 @@
 //! Ships to write: the line is `written` or the refusal, and the buffer afterwards.
 
+use crate::heads::{self, slips::Heads};
 use crate::lists::{self, slips::Lists};
-use crate::ships::{extremes, house, k1, k2, three_houses, with};
+use crate::ships::{bulk, extremes, house, k1, k2, three_houses, with};
 use crate::{overlap, refused, Expected, Sample};
 use twin::random::Random;
 use twin::record::{self, House, RawShip};
@@ -11,6 +12,7 @@ use twin::report::Trial;
 pub struct Writes {
     pub samples: Vec<Sample>,
     pub lists: Lists,
+    pub heads: Heads,
 }
 
 impl Writes {
@@ -22,6 +24,7 @@ impl Writes {
         assert_eq!(again, Some(line.clone()), "{name} does not come back");
         let short = (buffer as usize) < record::record_bytes(ship.n.min(8) as usize);
         self.lists.add(ship, refused(17, 0).filter(|_| short));
+        self.heads.write(&trial, &line);
         self.samples.push(Sample::new(name, data, line, expected));
     }
 
@@ -45,7 +48,10 @@ pub fn cases() -> Writes {
     beyond_count(&mut all);
     priorities(&mut all);
     lists(&mut all);
+    types(&mut all);
+    kind_lengths(&mut all);
     all.lists.enough("writes");
+    all.heads.enough("writes");
     all
 }
 
@@ -74,8 +80,10 @@ fn short_buffers(all: &mut Writes) {
 }
 
 fn kind_and_count(all: &mut Writes) {
-    all.ship("type-2", refused(3, 0), &RawShip { kind: 2, ..k1() });
-    all.ship("type-4", refused(3, 0), &RawShip { kind: 4, ..k1() });
+    // k1 is too short for type 2, and may be of type 4.
+    all.ship("type-2", refused(22, 0), &RawShip { kind: 2, ..k1() });
+    all.ship("type-4", None, &RawShip { kind: 4, ..k1() });
+    all.ship("type-5", refused(3, 0), &RawShip { kind: 5, ..k1() });
     all.ship("type-greatest", refused(3, 0), &RawShip { kind: u64::MAX, ..k1() });
     all.into(128, "nine-houses", refused(4, 0), &RawShip { n: 9, ..extremes() });
     all.ship("sixteen-houses", refused(4, 0), &RawShip { n: 16, ..k1() });
@@ -171,7 +179,7 @@ fn priorities(all: &mut Writes) {
     let open_deck = House { quarterdeck: true, enclosed: false, ..poop };
     let bad = house(30_000, 30_000, 2_000);
     let overlapping = house(9_999, 20_000, 2_000);
-    all.ship("3-before-4", refused(3, 0), &RawShip { kind: 3, n: 9, ..k1() });
+    all.ship("3-before-4", refused(3, 0), &RawShip { kind: 5, n: 9, ..k1() });
     all.ship("4-before-7", refused(4, 0), &RawShip { n: 9, length: 0, ..k1() });
     let both = RawShip { sheer: [0, 9_000, 0, 0, 0, 0], immersion: 1 << 16, ..k1() };
     all.ship("7-lowest-field", refused(7, 7), &both);
@@ -182,6 +190,88 @@ fn priorities(all: &mut Writes) {
     all.houses("10-before-11", refused(10, 0), &[open_deck, overlapping]);
     let both = with(k1(), &[poop, overlapping]);
     all.into(42, "11-before-17", overlap(1, 1), &both);
+}
+
+/// Every type, the version that holds it, and numbers of which only the low bits are a type's.
+fn types(all: &mut Writes) {
+    for kind in 0..=4 {
+        all.into(35, &format!("head-type-{kind}"), None, &RawShip { kind, ..bulk() });
+    }
+    for (kind, buffer) in [(2, 34), (3, 0), (4, 27)] {
+        let raw = RawShip { kind, ..bulk() };
+        all.into(buffer, &format!("head-type-{kind}-in-{buffer}-bytes"), refused(17, 0), &raw);
+    }
+    let mut random = Random::new(1968);
+    for (kind, n) in [(2, 8), (3, 5), (4, 2), (3, 0)] {
+        let raw = random.ship_of(kind, n);
+        all.into(100, &format!("head-random-type-{kind}-houses-{n}"), None, &raw);
+    }
+    all.into(91, "head-type-3-extreme-values", None, &RawShip { kind: 3, ..extremes() });
+    for (name, kind) in [
+        ("5", 5),
+        ("6", 6),
+        ("7", 7),
+        ("8", 8),
+        ("9", 9),
+        ("12", 12),
+        ("256", 256),
+        ("2-to-32-and-2", (1 << 32) + 2),
+        ("2-to-63-and-4", (1 << 63) + 4),
+        ("greatest", u64::MAX),
+    ] {
+        let raw = RawShip { kind, ..bulk() };
+        all.into(64, &format!("head-type-{name}-of-120-m"), refused(3, 0), &raw);
+    }
+}
+
+/// Refusal 22 from both sides, after 7 and before 8.
+fn kind_lengths(all: &mut Writes) {
+    for (kind, length, expected) in [
+        (2, 24_000, refused(22, 0)),
+        (2, 100_000, refused(22, 0)),
+        (2, 100_001, None),
+        (2, 200_001, None),
+        (3, 99_000, refused(22, 0)),
+        (3, 100_000, refused(22, 0)),
+        (3, 100_001, None),
+        (3, 365_000, None),
+        (4, 24_000, None),
+        (4, 99_999, None),
+        (4, 100_000, None),
+        (4, 200_000, None),
+        (4, 200_001, refused(22, 0)),
+        (4, 200_999, refused(22, 0)),
+        (4, 365_000, refused(22, 0)),
+        (2, 100_999, None),
+        (1, 100_000, None),
+        (0, 100_000, None),
+    ] {
+        let name = format!("head-type-{kind}-length-{length}");
+        all.into(40, &name, expected, &heads::of_length(kind, length));
+    }
+    for (kind, length) in [(2, 100_000), (3, 90_000), (4, 200_001)] {
+        let raw = heads::of_length(kind, length);
+        let bad = RawShip { cwf: 0, ..raw.clone() };
+        all.into(40, &format!("7-before-22-type-{kind}"), refused(7, 5), &bad);
+        let bad = RawShip { immersion: 7, ..raw.clone() };
+        all.into(40, &format!("22-before-8-type-{kind}"), refused(22, 0), &bad);
+        all.into(34, &format!("22-before-17-type-{kind}"), refused(22, 0), &raw);
+        let aft = house(30_000, 40_000, 2_000);
+        let houses = match kind {
+            2 => [house(30_000, 30_000, 2_000), raw.houses[0]],
+            3 => [raw.houses[0], aft],
+            _ => [aft, aft],
+        };
+        let number = [9, 18, 11][kind as usize - 2];
+        let bad = with(raw, &houses);
+        all.into(64, &format!("22-before-{number}"), refused(22, 0), &bad);
+    }
+    for (kind, length) in [(2, 23_999), (3, 0), (4, 365_001), (4, u64::MAX)] {
+        let raw = RawShip { kind, length, ..bulk() };
+        all.into(40, &format!("7-before-22-type-{kind}-length-{length}"), refused(7, 1), &raw);
+    }
+    let raw = RawShip { n: 9, ..heads::of_length(2, 90_000) };
+    all.into(40, "4-before-22", refused(4, 0), &raw);
 }
 
 /// Lists about refusals 11 and 18, and what comes before and after either.

@@ -66,7 +66,8 @@ impl Lists {
     /// Takes in a ship's houses, unless something before them is refused.
     pub fn add(&mut self, raw: &RawShip, later: Option<Refusal>) {
         let refusal = raw.check().err();
-        if refusal.is_some_and(|refusal| refusal.number < Refusal::HOUSE) {
+        let before = |number| number < Refusal::HOUSE || number == Refusal::KIND_LENGTH;
+        if refusal.is_some_and(|refusal| before(refusal.number)) {
             return;
         }
         let houses = raw.houses[..raw.n as usize].to_vec();

@@ -1,7 +1,8 @@
-//! Refusals 1 to 11 and 18, and the order between them.
+//! Refusals 1 to 11, 18 and 22, and the order between them.
 
 use super::Cases;
 use crate::bytes::{over, packed, resized, COUNT, HOUSE_SPARE, KIND, SPARE, VERSION};
+use crate::heads;
 use crate::lists;
 use crate::refused;
 use crate::ships::{extremes, house, k1, k2, open, quarterdeck, three_houses, with};
@@ -16,7 +17,8 @@ pub fn damaged(all: &mut Cases) {
 
 fn header(all: &mut Cases) {
     all.bytes("bytes-0", refused(1, 0), Vec::new());
-    all.bytes("version-2", refused(2, 0), over(packed(&k2()), VERSION, 4, 2));
+    // By the head of version 2 it has two houses.
+    all.bytes("version-2", refused(5, 0), over(packed(&k2()), VERSION, 4, 2));
     all.bytes("type-2", refused(3, 0), over(packed(&k2()), KIND, 2, 2));
     let nine = over(resized(packed(&extremes()), 99), COUNT, 4, 9);
     all.bytes("nine-houses", refused(4, 0), nine);
@@ -84,6 +86,20 @@ fn order(all: &mut Cases) {
     all.refused("10-before-11", 10, 0, &with(k1(), &[open_deck, overlapping]));
     let sinking = with(RawShip { depth: 1_000, ..k1() }, &[poop, overlapping]);
     all.overlap("11-before-12", 1, 1, &sinking);
+}
+
+/// Records about types and versions, and what comes after 22.
+pub fn heads(all: &mut Cases) {
+    for case in heads::cases() {
+        all.bytes(&case.name, case.expected, case.bytes);
+    }
+    for (kind, length) in [(2, 100_000), (3, 90_000), (4, 200_001)] {
+        let raw = heads::of_length(kind, length);
+        let sinking = RawShip { depth: 1_000, ..raw.clone() };
+        all.refused(&format!("22-before-12-type-{kind}"), 22, 0, &sinking);
+        let heavy = RawShip { displacement: 1 << 19, immersion: 1, ..raw };
+        all.refused(&format!("22-before-13-type-{kind}"), 22, 0, &heavy);
+    }
 }
 
 /// Lists about refusals 11 and 18, and what comes before and after either.

@@ -1,4 +1,4 @@
-//! Records to work the marks of: the line is the six marks, or one of refusals 1 to 13 and 18.
+//! Records to work the marks of: the line is the six marks, or one of refusals 1 to 13, 18 and 22.
 
 mod borders;
 mod damaged;
@@ -7,10 +7,12 @@ mod houses;
 mod last;
 mod low;
 mod sheer;
+mod types;
 
 use std::ops::Range;
 
 use crate::bytes::packed;
+use crate::heads::slips::Heads;
 use crate::lists::slips::Lists;
 use crate::slips::{self, tells, Slip, SLIPS};
 use crate::{overlap, refused, Expected, Sample};
@@ -26,6 +28,7 @@ pub struct Cases {
     /// Name of each group, and the place of its first sample.
     groups: Vec<(&'static str, usize)>,
     pub lists: Lists,
+    pub heads: Heads,
 }
 
 impl Cases {
@@ -38,12 +41,13 @@ impl Cases {
         let ship = record::read(&bytes);
         let answer = ship.clone().and_then(|ship| marks::marks(&ship));
         if let Ok(ship) = ship {
-            assert_eq!(answer, slips::marks(&ship, None), "{name}: not alike without a slip");
+            assert_eq!(answer, slips::worked(&ship, None), "{name}: not alike without a slip");
         }
         let line = match answer {
             Ok(marks) => marks.to_string(),
             Err(refusal) => refusal.to_string(),
         };
+        self.heads.marks(&bytes, &line);
         self.samples.push(Sample::new(name, bytes, line, expected));
     }
 
@@ -144,17 +148,22 @@ pub fn cases() -> Cases {
     all.group("damaged", damaged::damaged);
     all.group("random", found::every_count);
     // Each slip's ships are drawn after the cases that were there before it, so that these stay.
-    let earlier = |slip| !found::in_reduction(slip) && !found::in_shorter_sheer(slip);
+    let later = [found::in_reduction, found::in_shorter_sheer, found::in_types];
+    let earlier = |slip| !later.iter().any(|later| later(slip));
     all.group("found", |all| found::for_each_slip(all, earlier));
     low::groups(&mut all);
     all.group("low-found", |all| found::for_each_slip(all, found::in_reduction));
     all.group("sheer-mean", sheer::mean);
     all.group("sheer-signs", sheer::signs);
     all.group("lists", damaged::lists);
+    types::groups(&mut all);
+    all.group("heads", damaged::heads);
+    all.group("types-found", |all| found::for_each_slip(all, found::in_types));
     for &(slip, _, what) in SLIPS {
         assert!(all.told_by(slip).len() >= LEAST, "too few cases tell: {what}");
     }
     all.lists.enough("marks");
+    all.heads.enough("marks");
     all
 }
 

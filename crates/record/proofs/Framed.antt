@@ -1,42 +1,53 @@
 -- What checks 1 to 6 show of accepted bytes, and what a reading then is.
 use Prim.Native.Nat.{ℕ, _+_, _≤_}
-use mathlib.Core.Bool.{not}
+use mathlib.Core.Bool.{not, _||_}
 use mathlib.Core.List.{List, _++_}
-use mathlib.Core.Path.{_≡_, sym, ap, subst, _∙_}
+use mathlib.Core.Path.{_≡_, refl, sym, ap, subst, _∙_}
 use lib.ListN.{length}
-use lib.Dec.{eqb}
-use borrow.Author.Tests.{ltb-false, eqb-true, not-false, le-ltb, eq-eqb}
+use lib.Dec.{eqb, ltb}
+use borrow.Author.Tests.{ltb-false, eqb-true, eqb-false, not-false, le-ltb, eq-eqb, ne-eqb}
 use native.Mathlib.Omega.{arith}
 use Rattle.whole.specs.Pick.{pick}
+use Rattle.whole.proofs.Pick.{by-cases}
 use Rattle.ship.specs.declared.Ship.{Ship}
 use Rattle.ship.specs.declared.refusal.Refusal.{Refusal}
 use Rattle.ship.specs.Vessel.{noShip}
 use Rattle.ship.specs.Refusals.{Paper, accepted, refusedAs, first}
 use Rattle.ship.specs.Checks.{shipLines}
-use Rattle.ship.proofs.Lines.{AllPass, all-pass, all-pass-split, first-accepted, first-refused, first-passed, beside-refusal}
+use Rattle.ship.proofs.Lines.{or-false, AllPass, all-pass, all-pass-split, first-accepted, first-refused, first-passed, beside-refusal}
 use Rattle.ship.specs.Good.{Good}
 use Rattle.ship.proofs.Accepted.{good}
-use Rattle.record.specs.Layout.{recordLength, headIn, shipIn}
+use Rattle.record.specs.Layout.{recordLength, lastVersion, lastType, lastTypeIn, headIn, shipIn}
 use Rattle.record.specs.Reading.{Reading, sparesIn, frameLines, readingOf, readingIn}
 
 -- the bytes of a record with a right head, in its right length, with no spare bit set
 pub record Framed (s : List ℕ) : Type 0 where
   pub long : 27 ≤ length s
-  pub first : headIn s .version ≡ 1
-  pub type : headIn s .kind ≤ 1
+  pub first : 1 ≤ headIn s .version
+  pub last : headIn s .version ≤ lastVersion
+  pub type : headIn s .kind ≤ lastTypeIn (headIn s .version)
   pub few : headIn s .count ≤ 8
   pub exact : length s ≡ recordLength (headIn s .count)
   pub blank : headIn s .spare + sparesIn s (headIn s .count) ≡ 0
 
 pub frame-passed : (s : List ℕ) → AllPass (frameLines s) → Framed s
-frame-passed s p = record {
-  long = ltb-false (length s) 27 (p .0);
-  first = eqb-true (headIn s .version) 1 (not-false (eqb (headIn s .version) 1) (p .1 .0));
-  type = ltb-false 1 (headIn s .kind) (p .1 .1 .0);
-  few = ltb-false 8 (headIn s .count) (p .1 .1 .1 .0);
-  exact = eqb-true (length s) (recordLength (headIn s .count)) (not-false (eqb (length s) (recordLength (headIn s .count))) (p .1 .1 .1 .1 .0));
-  blank = eqb-true _ 0 (not-false _ (p .1 .1 .1 .1 .1 .0));
-}
+frame-passed s p =
+    let v = headIn s .version in
+    let known = or-false (eqb v 0) (ltb lastVersion v) (p .1 .0) in
+    record {
+      long = ltb-false (length s) 27 (p .0);
+      first = (let n : ¬ (v ≡ 0) = eqb-false v 0 (known .0) in omega arith);
+      last = ltb-false lastVersion v (known .1);
+      type = ltb-false (lastTypeIn v) (headIn s .kind) (p .1 .1 .0);
+      few = ltb-false 8 (headIn s .count) (p .1 .1 .1 .0);
+      exact = eqb-true (length s) (recordLength (headIn s .count)) (not-false (eqb (length s) (recordLength (headIn s .count))) (p .1 .1 .1 .1 .0));
+      blank = eqb-true _ 0 (not-false _ (p .1 .1 .1 .1 .1 .0));
+    }
+
+-- no version holds a type past the last
+pub type-most : {kind : ℕ} (version : ℕ) → kind ≤ lastTypeIn version → kind ≤ lastType
+unfolding lastTypeIn
+type-most {kind} version = by-cases (λ (t : ℕ). kind ≤ t → kind ≤ lastType) (eqb version 1) _ _ (λ t h. omega arith) (λ t h. h)
 
 -- such bytes pass checks 1 to 6
 pub frame-passes : (s : List ℕ) → Framed s → first (frameLines s) ≡ accepted
@@ -44,9 +55,9 @@ frame-passes s f =
     first-passed (frameLines s) (
       le-ltb (length s) 27 (f .long),
       (
-        ap not (eq-eqb (headIn s .version) 1 (f .first)),
+        rw (ne-eqb (headIn s .version) 0 (λ z. omega (arith, f .first)), le-ltb lastVersion (headIn s .version) (f .last)) refl,
         (
-          le-ltb 1 (headIn s .kind) (f .type),
+          le-ltb (lastTypeIn (headIn s .version)) (headIn s .kind) (f .type),
           (
             le-ltb 8 (headIn s .count) (f .few),
             (ap not (eq-eqb (length s) (recordLength (headIn s .count)) (f .exact)), (ap not (eq-eqb (headIn s .spare + sparesIn s (headIn s .count)) 0 (f .blank)), tt)),
@@ -86,9 +97,9 @@ module _ (s : List ℕ) (x : Ship) (e : readingIn s ≡ record { verdict = accep
       let u = first-passed (shipLines (shipIn s)) (passes-all .1) in
       ap (λ (r : Reading). r .ship) (sym (t ∙ ap (λ (p : Paper). readingOf p (shipIn s)) u) ∙ e)
 
-pub read-is-good : (s : List ℕ) (x : Ship) → readingIn s ≡ record { verdict = accepted; ship = x } → (x .kind ≤ 1) × (x .n ≤ 8) × Good x
+pub read-is-good : (s : List ℕ) (x : Ship) → readingIn s ≡ record { verdict = accepted; ship = x } → (x .kind ≤ lastType) × (x .n ≤ 8) × Good x
 unfolding shipIn
 read-is-good s x e =
     let f = frame-passed s (passes-all s x e .0) in
     let p = first-passed (shipLines (shipIn s)) (passes-all s x e .1) in
-    subst (λ (y : Ship). (y .kind ≤ 1) × (y .n ≤ 8) × Good y) (ship-is s x e) (f .type, f .few, good (shipIn s) (ap (λ (v : Paper). v .number) p))
+    subst (λ (y : Ship). (y .kind ≤ lastType) × (y .n ≤ 8) × Good y) (ship-is s x e) (type-most (headIn s .version) (f .type), f .few, good (shipIn s) (ap (λ (v : Paper). v .number) p))

@@ -1,13 +1,13 @@
 -- Reading a written record gives the ship back, and writing an accepted record's ship gives its bytes back.
 use Prim.Native.Nat.{ℕ, zero, suc, _+_, _-_, _*_, _^_, _≤_, _<_}
 use mathlib.Core.List.{List, [], _∷_, _++_, append-nil}
-use mathlib.Core.Path.{_≡_, refl, sym, ap, subst, _∙_}
-use lib.ListN.{length, take, drop, getD, replicate, length-append, length-drop, take-append-drop}
+use mathlib.Core.Path.{_≡_, refl, sym, ap, ap₂, subst, _∙_}
+use lib.ListN.{length, take, drop, getD, replicate, length-replicate, length-append, length-drop, take-append-drop}
 use lib.Seq.{take-at, drop-at, drop-drop, drop-append-add, length-take-le, ext-getD, take-all}
 use native.Mathlib.Decide.{decLt}
 use native.Mathlib.Omega.{arith}
 use Rattle.whole.specs.Pick.{pick}
-use Rattle.bits.specs.Fields.{number, pack, unpack, bytes, Fit, Bytes}
+use Rattle.bits.specs.Fields.{number, piece, pack, unpack, bytes, Fit, Bytes}
 use Rattle.bits.proofs.Radix.{read-written, written-read, bytes-take, bytes-drop}
 use Rattle.units.specs.declared.Ordinate.{Ordinate}
 use Rattle.units.specs.Datum.{lift, sheerAt, Lifted}
@@ -21,13 +21,13 @@ use Rattle.ship.specs.Good.{Good}
 use Rattle.ship.proofs.Lines.{first-passed}
 use Rattle.ship.proofs.Accepted.{good}
 use Rattle.record.specs.declared.Head.{Head}
-use Rattle.record.specs.Layout.{recordLength, turn, headWidths, headFields, headOf, headBytes, headIn, shipHead, shipOf, placesIn, shipIn, recordBytes, housesBytes, housesIn, houseAt, spareIn}
+use Rattle.record.specs.Layout.{recordLength, turn, lastVersion, lastType, lastTypeIn, lowestFor, versionIn, headWidths, headFields, headOf, headBytes, headIn, shipHead, shipOf, placesIn, shipIn, recordBytes, housesBytes, housesIn, houseAt, spareIn}
 use Rattle.record.specs.Reading.{sparesIn, readingIn}
 use Rattle.record.specs.Writing.{writingOf}
 use Rattle.record.proofs.Complement.{turn-turn}
-use Rattle.record.proofs.Parts.{length-headBytes, length-housesBytes, length-housesIn, head-within}
-use Rattle.record.proofs.Framed.{passes-all, ship-is, Framed, frame-passed, frame-passes, reading-framed}
-use Rattle.record.proofs.Written.{head-fits, writing-accepted}
+use Rattle.record.proofs.Parts.{length-headBytes, length-housesBytes, length-housesIn, head-total, fieldsIn, head-within, version-first, version-is}
+use Rattle.record.proofs.Framed.{passes-all, ship-is, Framed, frame-passed, frame-passes, type-most, reading-framed}
+use Rattle.record.proofs.Written.{lowest-holds, head-fits, writing-accepted}
 use Rattle.record.proofs.House.{Held, AllHeld, houses-back, houses-there, house-at, spare-back}
 
 -- what the types of a ship's arrays say
@@ -52,10 +52,6 @@ six-of o e = ext-getD (record { 0 = 0 }) _ o (sym e) (λ i h. below i (omega ari
     below (suc (suc (suc (suc (suc (suc i)))))) h = absurd (omega arith)
 
 -- ---- a head, read from what was written
--- the bits of the head's fields
-abbrev fieldsIn : List ℕ → List ℕ
-fieldsIn s = unpack headWidths (number (take 27 s))
-
 head-fields : (h : Head) → length (h .sheer) ≡ 6 → Lifted (h .sheer) → headOf (headFields h) ≡ h
 head-fields h six l =
     let o = h .sheer in
@@ -77,18 +73,21 @@ head-fields h six l =
       immersion = h .immersion;
     }
 
-pub head-back : (h : Head) → length (h .sheer) ≡ 6 → Lifted (h .sheer) → Fit headWidths (headFields h) → (rest : List ℕ) → headIn (headBytes h ++ rest) ≡ h
+pub head-back : (h : Head) → length (h .sheer) ≡ 6 → Lifted (h .sheer) → Fit (headWidths (h .version)) (headFields h) → (rest : List ℕ) → headIn (headBytes h ++ rest) ≡ h
 unfolding headIn headBytes
 head-back h six l f rest =
-    ap (λ (t : List ℕ). headOf (unpack headWidths (number t))) (take-at (headBytes h) rest 27 (length-headBytes h))
-    ∙ ap headOf (read-written headWidths 27 refl (headFields h) f) ∙ head-fields h six l
+    let n : ℕ = number (headBytes h) in
+    let fields = read-written (headWidths (h .version)) 27 (head-total (h .version)) (headFields h) f in
+    let version : piece n 212 4 ≡ h .version = sym (version-first (h .version) n) ∙ ap (λ (fs : List ℕ). getD fs 0 0) fields in
+    ap (λ (t : List ℕ). headOf (unpack (headWidths (piece (number t) 212 4)) (number t))) (take-at (headBytes h) rest 27 (length-headBytes h))
+    ∙ ap (λ (v : ℕ). headOf (unpack (headWidths v) n)) version ∙ ap headOf fields ∙ head-fields h six l
 
 -- ---- and written from what was read
 fields-head : (s : List ℕ) → headFields (headOf (fieldsIn s)) ≡ fieldsIn s
 unfolding unpack
 fields-head s =
     let v : (k : ℕ) → ℕ = λ k. getD (fieldsIn s) k 0 in
-    let w : (k : ℕ) → v k < 2 ^ getD headWidths k 0 = head-within s in
+    let w : (k : ℕ) → v k < 2 ^ getD (headWidths (versionIn s)) k 0 = head-within s in
     λ i. v 0 ∷ v 1 ∷ v 2 ∷ v 3 ∷ v 4 ∷ v 5 ∷ v 6 ∷ v 7 ∷ v 8
     ∷ turn-turn lift (v 9) (w 9) i ∷ turn-turn lift (v 10) (w 10) i ∷ turn-turn lift (v 11) (w 11) i
     ∷ turn-turn lift (v 12) (w 12) i ∷ turn-turn lift (v 13) (w 13) i ∷ turn-turn lift (v 14) (w 14) i ∷ v 15 ∷ v 16 ∷ []
@@ -96,7 +95,9 @@ fields-head s =
 pub head-there : (s : List ℕ) → Bytes s → 27 ≤ length s → headBytes (headIn s) ≡ take 27 s
 unfolding headIn headBytes
 head-there s b l =
-    ap (λ (v : List ℕ). bytes 27 (pack headWidths v)) (fields-head s) ∙ written-read headWidths 27 refl (take 27 s) (bytes-take 27 s b) (length-take-le 27 s l)
+    let v = versionIn s in
+    ap₂ (λ (u : ℕ) (fs : List ℕ). bytes 27 (pack (headWidths u) fs)) (version-is s) (fields-head s)
+    ∙ written-read (headWidths v) 27 (head-total v) (take 27 s) (bytes-take 27 s b) (length-take-le 27 s l)
 
 -- the spare bits of houses, added up, are 0 where none is set, and only there
 none-spare : (s : List ℕ) (n : ℕ) → ((k : ℕ) → k < n → spareIn (houseAt s k) ≡ 0) → sparesIn s n ≡ 0
@@ -118,7 +119,7 @@ all-held [] f = tt
 all-held (h ∷ hs) f = (f 0 (omega arith), all-held hs (λ i q. f (suc i) (omega arith)))
 
 -- ---- what the writer accepts, the reader reads back
-module _ (x : Ship) (shaped : Shaped x) (k : x .kind ≤ 1) (m : x .n ≤ 8) (passes : first (shipLines x) ≡ accepted) where
+module _ (x : Ship) (shaped : Shaped x) (k : x .kind ≤ lastType) (m : x .n ≤ 8) (passes : first (shipLines x) ≡ accepted) where
   g : Good x
   g = good x (ap (λ (p : Paper). p .number) passes)
 
@@ -170,8 +171,9 @@ module _ (x : Ship) (shaped : Shaped x) (k : x .kind ≤ 1) (m : x .n ≤ 8) (pa
       let e : (P : Head → Type 0) → P (shipHead x) → P (headIn (recordBytes x)) = λ P p. subst P (sym head-is) p in
       record {
         long = omega (arith, length-record);
-        first = e (λ h. h .version ≡ 1) refl;
-        type = e (λ h. h .kind ≤ 1) k;
+        first = e (λ h. 1 ≤ h .version) (lowest-holds (x .kind) k .3);
+        last = e (λ h. h .version ≤ lastVersion) (lowest-holds (x .kind) k .4);
+        type = e (λ h. h .kind ≤ lastTypeIn (h .version)) (lowest-holds (x .kind) k .5);
         few = e (λ h. h .count ≤ 8) m;
         exact = e (λ h. length (recordBytes x) ≡ recordLength (h .count)) length-record;
         blank = e (λ h. h .spare + sparesIn (recordBytes x) (h .count) ≡ 0) (omega (arith, none-spare (recordBytes x) (x .n) blank-back));
@@ -183,8 +185,8 @@ module _ (x : Ship) (shaped : Shaped x) (k : x .kind ≤ 1) (m : x .n ≤ 8) (pa
       reading-framed (recordBytes x) (frame-passes (recordBytes x) frame-back)
       ∙ rw (ship-back, clean-passes) refl
 
--- ---- what the reader accepts, the writer writes back
-module _ (s : List ℕ) (b : Bytes s) (f : Framed s) where
+-- ---- what the reader accepts in the lowest version that holds the ship, the writer writes back
+module _ (s : List ℕ) (b : Bytes s) (f : Framed s) (lowest : versionIn s ≡ lowestFor (shipIn s .kind)) where
   -- the head is that of a ship's record
   head-whole : shipHead (shipIn s) ≡ headIn s
   unfolding shipIn
@@ -192,7 +194,7 @@ module _ (s : List ℕ) (b : Bytes s) (f : Framed s) where
       let h = headIn s in
       let z : 0 ≡ h .spare = omega (arith, f .blank) in
       λ i. record {
-        version = sym (f .first) i;
+        version = (sym lowest ∙ sym (version-is s)) i;
         kind = h .kind;
         count = h .count;
         spare = z i;
@@ -225,8 +227,8 @@ module _ (s : List ℕ) (b : Bytes s) (f : Framed s) where
   bytes-there = rw (head-whole, head-there s b (f .long), places-there) (take-append-drop 27 s)
 
 module _ (s : List ℕ) (x : Ship) (e : readingIn s ≡ record { verdict = accepted; ship = x }) where
-  pub write-back : Bytes s → recordBytes x ≡ s
-  write-back b = rw (← (ship-is s x e)) (bytes-there s b (frame-passed s (passes-all s x e .0)))
+  pub write-back : Bytes s → versionIn s ≡ lowestFor (x .kind) → recordBytes x ≡ s
+  write-back b lowest = rw (← (ship-is s x e)) (bytes-there s b (frame-passed s (passes-all s x e .0)) (lowest ∙ ap (λ (y : Ship). lowestFor (y .kind)) (sym (ship-is s x e))))
 
   pub length-there : length s ≡ recordLength (x .n)
   unfolding shipIn
@@ -238,4 +240,20 @@ module _ (s : List ℕ) (x : Ship) (e : readingIn s ≡ record { verdict = accep
   writes-back room h =
       let f = frame-passed s (passes-all s x e .0) in
       subst (λ (y : Ship). writingOf room y ≡ accepted) (ship-is s x e)
-      (writing-accepted room (shipIn s) (f .type) (f .few) (first-passed (shipLines (shipIn s)) (passes-all s x e .1)) (omega arith))
+      (writing-accepted room (shipIn s) (type-most (headIn s .version) (f .type)) (f .few) (first-passed (shipLines (shipIn s)) (passes-all s x e .1)) (omega arith))
+
+  -- its arrays have their lengths, and its places beyond n are zero already
+  pub shaped-read : Shaped x
+  unfolding shipIn placesIn headIn
+  shaped-read =
+      let n = headIn s .count in
+      let m = frame-passed s (passes-all s x e .0) .few in
+      let l : length (placesIn n s) ≡ 8 = omega (arith, length-append (housesIn n (drop 27 s)) (replicate (8 - n) noHouse), length-housesIn n (drop 27 s), length-replicate {A = House} (8 - n) noHouse) in
+      subst Shaped (ship-is s x e) (record { eight = l; six = refl })
+
+  pub clean-read : clean x ≡ x
+  unfolding shipIn placesIn
+  clean-read =
+      let n = headIn s .count in
+      subst (λ (y : Ship). clean y ≡ y) (ship-is s x e)
+      (ap (λ (hs : List House). shipOf (headIn s) (hs ++ replicate (8 - n) noHouse)) (take-at (housesIn n (drop 27 s)) (replicate (8 - n) noHouse) n (length-housesIn n (drop 27 s))))

@@ -15,9 +15,9 @@ use Rattle.whole.proofs.Pick.{pick-true, pick-false}
 use Rattle.bits.specs.Fields.{number, unpack}
 use Rattle.bits.proofs.Radix.{fit-unpack, fit-each}
 use Rattle.units.specs.Datum.{mmOf, sheerOf, sheerAt}
-use Rattle.record.specs.Layout.{turn, headWidths, houseWidths, houseIn, headIn}
+use Rattle.record.specs.Layout.{turn, versionIn, headWidths, houseWidths, houseIn, headIn}
 use Rattle.record.proofs.Complement.{turn-below, turn-above, turn-turn}
-use Rattle.record.proofs.Parts.{head-within}
+use Rattle.record.proofs.Parts.{fieldsIn, head-within}
 
 -- what w bits are as a signed number: v itself below 2^(w-1), from there on v - 2^w
 abbrev pub complement : ℕ → ℕ → ℤ
@@ -73,12 +73,12 @@ ends-signed t =
     (turned-signed 21 (omega arith) (getD (unpack houseWidths (number t)) 2 0) (w 2), turned-signed 21 (omega arith) (getD (unpack houseWidths (number t)) 3 0) (w 3))
 
 -- the six ordinates of sheer, 14 bits each, in mm
-pub sheer-signed : (s : List ℕ) (k : ℕ) → k < 6 → sheerOf (sheerAt (headIn s .sheer) k) ≡ signedAt headWidths (number (take 27 s)) (9 + k)
+pub sheer-signed : (s : List ℕ) (k : ℕ) → k < 6 → sheerOf (sheerAt (headIn s .sheer) k) ≡ signedAt (headWidths (versionIn s)) (number (take 27 s)) (9 + k)
 unfolding headIn
-sheer-signed s zero h = turned-signed 14 (omega arith) (getD (unpack headWidths (number (take 27 s))) 9 0) (head-within s 9)
-sheer-signed s (suc zero) h = turned-signed 14 (omega arith) (getD (unpack headWidths (number (take 27 s))) 10 0) (head-within s 10)
-sheer-signed s (suc (suc zero)) h = turned-signed 14 (omega arith) (getD (unpack headWidths (number (take 27 s))) 11 0) (head-within s 11)
-sheer-signed s (suc (suc (suc zero))) h = turned-signed 14 (omega arith) (getD (unpack headWidths (number (take 27 s))) 12 0) (head-within s 12)
-sheer-signed s (suc (suc (suc (suc zero)))) h = turned-signed 14 (omega arith) (getD (unpack headWidths (number (take 27 s))) 13 0) (head-within s 13)
-sheer-signed s (suc (suc (suc (suc (suc zero))))) h = turned-signed 14 (omega arith) (getD (unpack headWidths (number (take 27 s))) 14 0) (head-within s 14)
+sheer-signed s zero h = turned-signed 14 (omega arith) (getD (fieldsIn s) 9 0) (head-within s 9)
+sheer-signed s (suc zero) h = turned-signed 14 (omega arith) (getD (fieldsIn s) 10 0) (head-within s 10)
+sheer-signed s (suc (suc zero)) h = turned-signed 14 (omega arith) (getD (fieldsIn s) 11 0) (head-within s 11)
+sheer-signed s (suc (suc (suc zero))) h = turned-signed 14 (omega arith) (getD (fieldsIn s) 12 0) (head-within s 12)
+sheer-signed s (suc (suc (suc (suc zero)))) h = turned-signed 14 (omega arith) (getD (fieldsIn s) 13 0) (head-within s 13)
+sheer-signed s (suc (suc (suc (suc (suc zero))))) h = turned-signed 14 (omega arith) (getD (fieldsIn s) 14 0) (head-within s 14)
 sheer-signed s (suc (suc (suc (suc (suc (suc k)))))) h = absurd (omega arith)

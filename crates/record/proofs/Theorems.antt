@@ -11,15 +11,15 @@ use Rattle.ship.specs.declared.Ship.{Ship}
 use Rattle.ship.specs.Vessel.{noHouse, housesOf, clean, Same}
 use Rattle.ship.specs.Refusals.{Paper, accepted, first}
 use Rattle.ship.specs.Checks.{shipLines}
-use Rattle.record.specs.Layout.{recordLength, recordBytes}
+use Rattle.record.specs.Layout.{recordLength, lastType, lowestFor, versionIn, recordBytes}
 use Rattle.record.specs.Reading.{readingIn}
 use Rattle.record.specs.Writing.{writingOf, written}
 use Rattle.record.proofs.Written.{writing-passed}
-use Rattle.record.proofs.RoundTrip.{Shaped, length-record, read-back, write-back, length-there, writes-back}
+use Rattle.record.proofs.RoundTrip.{Shaped, length-record, read-back, shaped-read, clean-read, write-back, length-there, writes-back}
 
 -- ---- reading a written record gives the ship back
 module _ (x : Ship) (shaped : Shaped x) (buf : List ℕ) (wrote : writingOf (length buf) x ≡ accepted) where
-  right : (x .kind ≤ 1) × (x .n ≤ 8) × (first (shipLines x) ≡ accepted)
+  right : (x .kind ≤ lastType) × (x .n ≤ 8) × (first (shipLines x) ≡ accepted)
   right = let p = writing-passed (length buf) x (ap (λ (v : Paper). v .number) wrote) in (p .0, p .1, p .2)
 
   -- from the bytes that the buffer then holds; places beyond n read as zero
@@ -47,12 +47,21 @@ module _ (x : Ship) (shaped : Shaped x) (buf : List ℕ) (wrote : writingOf (len
         houses = sym (take-at (housesOf x) (replicate (8 - x .n) noHouse) (x .n) e);
       }
 
--- ---- writing an accepted record's ship is accepted and gives its bytes back, spare bits included
-pub write-what-was-read : (s : List ℕ) (x : Ship) → Bytes s → readingIn s ≡ record { verdict = accepted; ship = x }
+-- ---- writing an accepted record's ship is accepted; if the record is in the lowest version that holds the ship, it gives its bytes back, spare bits included
+pub write-what-was-read : (s : List ℕ) (x : Ship) → Bytes s → readingIn s ≡ record { verdict = accepted; ship = x } → versionIn s ≡ lowestFor (x .kind)
     → (buf : List ℕ) → length s ≤ length buf
     → (writingOf (length buf) x ≡ accepted) × (written (writingOf (length buf) x) x buf ≡ s ++ drop (length s) buf)
 unfolding written pick
-write-what-was-read s x b e buf h =
+write-what-was-read s x b e lowest buf h =
     let l = sym (length-there s x e) in
     let w = writes-back s x e (length buf) h in
-    (w, rw w (λ i. write-back s x e b i ++ drop (l i) buf))
+    (w, rw w (λ i. write-back s x e b lowest i ++ drop (l i) buf))
+
+-- in any version, what is written reads as the same ship
+pub written-reads-same : (s : List ℕ) (x : Ship) → readingIn s ≡ record { verdict = accepted; ship = x }
+    → (buf : List ℕ) → length s ≤ length buf
+    → (writingOf (length buf) x ≡ accepted)
+    × (readingIn (take (recordLength (x .n)) (written (writingOf (length buf) x) x buf)) ≡ record { verdict = accepted; ship = x })
+written-reads-same s x e buf h =
+    let w = writes-back s x e (length buf) h in
+    (w, read-what-was-written x (shaped-read s x e) buf w ∙ ap (λ (y : Ship). record { verdict = accepted; ship = y }) (clean-read s x e))

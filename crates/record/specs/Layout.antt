@@ -1,22 +1,31 @@
--- 01, "Ship record, version 1": bit-packed, most significant bit first, signed fields in two's complement.
+-- 01, "Ship record, version 1", and 02 §5's version 2: bit-packed, most significant bit first, signed fields in two's complement.
 use Prim.Native.Nat.{ℕ, zero, suc, _+_, _-_, _*_, _%_, _<_}
 use mathlib.Core.Bool.{Bool, true, false}
 use mathlib.Core.List.{List, [], _∷_, _++_}
 use lib.ListN.{length, take, drop, getD, replicate}
-use lib.Dec.{eqb}
-use Rattle.bits.specs.Fields.{number, unpack, pack, bytes}
+use lib.Dec.{eqb, ltb}
+use Rattle.whole.specs.Pick.{pick}
+use Rattle.bits.specs.Fields.{number, piece, unpack, pack, bytes}
 use Rattle.units.specs.declared.Station.{Station}
 use Rattle.units.specs.declared.Ordinate.{Ordinate}
 use Rattle.units.specs.Datum.{datum, lift, sheerAt}
 use Rattle.ship.specs.declared.House.{House}
 use Rattle.ship.specs.declared.Ship.{Ship}
+use Rattle.ship.specs.Kinds.{kindB, kindCovers}
 use Rattle.ship.specs.Vessel as Vessel
 use Rattle.ship.specs.Vessel.{noHouse, housesOf}
 use Rattle.record.specs.declared.Head.{Head}
 
+-- the type has 2 bits in version 1, and 3 in version 2, which has one spare bit less
+unfoldable pub kindBits : ℕ → ℕ
+kindBits version = pick (eqb version 1) 2 3
+
+unfoldable pub spareBits : ℕ → ℕ
+spareBits version = pick (eqb version 1) 6 5
+
 -- version, type, houses n, spare; L, D, M, Cb, Cwf; six ordinates of sheer; displacement, immersion
-abbrev pub headWidths : List ℕ
-headWidths = 4 ∷ 2 ∷ 4 ∷ 6 ∷ 20 ∷ 16 ∷ 16 ∷ 14 ∷ 14 ∷ 14 ∷ 14 ∷ 14 ∷ 14 ∷ 14 ∷ 14 ∷ 20 ∷ 16 ∷ []
+abbrev pub headWidths : ℕ → List ℕ
+headWidths version = 4 ∷ kindBits version ∷ 4 ∷ spareBits version ∷ 20 ∷ 16 ∷ 16 ∷ 14 ∷ 14 ∷ 14 ∷ 14 ∷ 14 ∷ 14 ∷ 14 ∷ 14 ∷ 20 ∷ 16 ∷ []
 
 -- enclosed, raised quarterdeck, aft end, fore end, height, spare
 abbrev pub houseWidths : List ℕ
@@ -26,12 +35,15 @@ houseWidths = 1 ∷ 1 ∷ 21 ∷ 21 ∷ 13 ∷ 7 ∷ []
 abbrev pub recordLength : ℕ → ℕ
 recordLength n = 27 + 8 * n
 
--- the only version; the last of the types, A is 0 and B is 1; the most houses
-abbrev pub onlyVersion : ℕ
-onlyVersion = 1
+-- the last version; the last type, of all and of those that a version holds; the most houses
+abbrev pub lastVersion : ℕ
+lastVersion = 2
 
 abbrev pub lastType : ℕ
-lastType = 1
+lastType = kindCovers
+
+unfoldable pub lastTypeIn : ℕ → ℕ
+lastTypeIn version = pick (eqb version 1) kindB lastType
 
 abbrev pub mostHouses : ℕ
 mostHouses = 8
@@ -124,16 +136,24 @@ headOf f = record {
 }
 
 unfoldable pub headBytes : Head → List ℕ
-headBytes h = bytes 27 (pack headWidths (headFields h))
+headBytes h = bytes 27 (pack (headWidths (h .version)) (headFields h))
+
+-- the version stands in the first four bits of every head; it says how wide the fields are
+abbrev pub versionIn : List ℕ → ℕ
+versionIn s = piece (number (take 27 s)) 212 4
 
 unfoldable pub headIn : List ℕ → Head
-headIn s = headOf (unpack headWidths (number (take 27 s)))
+headIn s = headOf (unpack (headWidths (versionIn s)) (number (take 27 s)))
 
 -- ---- the ship: its head and its houses
+-- the lowest version that holds a ship of a type
+unfoldable pub lowestFor : ℕ → ℕ
+lowestFor kind = pick (ltb (lastTypeIn 1) kind) 2 1
+
 -- the head of a ship's record
 abbrev pub shipHead : Ship → Head
 shipHead x = record {
-  version = onlyVersion;
+  version = lowestFor (x .kind);
   kind = x .kind;
   count = x .n;
   spare = 0;

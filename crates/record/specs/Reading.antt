@@ -1,6 +1,6 @@
--- 01, "Refusals and their order": reading uses 1 to 11, and 18 with 11.
+-- 01, "Refusals and their order", with 02: reading uses 1 to 11, 22 after 7, and 18 with 11.
 use Prim.Native.Nat.{ℕ, zero, suc, _+_}
-use mathlib.Core.Bool.{not}
+use mathlib.Core.Bool.{not, _||_}
 use mathlib.Core.List.{List, [], _∷_, _++_}
 use lib.ListN.{length}
 use lib.Dec.{eqb, ltb}
@@ -10,7 +10,7 @@ use Rattle.ship.specs.Vessel.{noShip}
 use Rattle.ship.specs.Refusals.{Paper, Line, refused, first}
 use Rattle.ship.specs.Checks.{shipLines}
 use Rattle.record.specs.declared.Head.{Head}
-use Rattle.record.specs.Layout.{recordLength, onlyVersion, lastType, mostHouses, headIn, spareIn, houseAt, shipIn}
+use Rattle.record.specs.Layout.{recordLength, lastVersion, lastTypeIn, mostHouses, headIn, spareIn, houseAt, shipIn}
 
 -- the spare bits of the first k houses, added up: 0 where none is set
 unfoldable pub sparesIn : List ℕ → ℕ → ℕ
@@ -20,8 +20,8 @@ sparesIn s (suc k) = sparesIn s k + spareIn (houseAt s k)
 -- 2 to 5: what the head of a record of so many bytes shows
 abbrev pub headLines : Head → ℕ → List Line
 headLines h bytes =
-    (not (eqb (h .version) onlyVersion), refused 2 0)
-    ∷ (ltb lastType (h .kind), refused 3 0)
+    (eqb (h .version) 0 || ltb lastVersion (h .version), refused 2 0)
+    ∷ (ltb (lastTypeIn (h .version)) (h .kind), refused 3 0)
     ∷ (ltb mostHouses (h .count), refused 4 0)
     ∷ (not (eqb bytes (recordLength (h .count))), refused 5 0)
     ∷ []

@@ -1,4 +1,4 @@
--- 01, "Refusals and their order": the writer uses 3, 4, 7 to 11, 18 with 11, and 17; an accepted write changes the record's bytes only.
+-- 01, "Refusals and their order", with 02: the writer uses 3, 4, 7 to 11, 22 after 7, 18 with 11, and 17; an accepted write changes the record's bytes only.
 use Prim.Native.Nat.{ℕ}
 use mathlib.Core.List.{List, [], _∷_, _++_}
 use lib.ListN.{drop}

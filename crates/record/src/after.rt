@@ -1,4 +1,7 @@
 // The code takes a record in words of at most eight bytes: how many bits of its word stand after a field.
+ghost use mathlib.Core.Path.{_≡_};
+ghost use Prim.Native.Nat.{_+_, _<_};
+ghost use Rattle.record.specs.Layout.{spareBits};
 use crate::width;
 
 // ---- bytes 0 to 7: version, type, houses n, spare, L, D, the first bits of M
@@ -8,11 +11,21 @@ pub const LENGTH: u64 = DEPTH + width::DEPTH;
 
 pub const SPARE: u64 = LENGTH + width::LENGTH;
 
-pub const COUNT: u64 = SPARE + width::SPARE;
+// n and the type stand where the version has them.
+pub fn count(version: u64) -> u64
+    ensures { λ r. ⌜ (r ≡ 48 + spareBits version) × (r < 56) ⌝ }
+{
+    SPARE + width::spare(version)
+}
 
-pub const KIND: u64 = COUNT + width::COUNT;
+pub fn kind(version: u64) -> u64
+    ensures { λ r. ⌜ (r ≡ 52 + spareBits version) × (r < 60) ⌝ }
+{
+    count(version) + width::COUNT
+}
 
-pub const VERSION: u64 = KIND + width::KIND;
+// The same in every version: where the type has one bit more, one less is spare.
+pub const VERSION: u64 = SPARE + width::SPARE + width::COUNT + width::KIND;
 
 // ---- bytes 8 to 11: the last bits of M, Cb, Cwf
 pub const BLOCK: u64 = width::WATERPLANE;

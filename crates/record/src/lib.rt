@@ -1,8 +1,9 @@
-// The layout of the ship record, version 1: a head, then the houses. Reader and writer take the width and the place of every field from here.
+// The layout of the ship record, versions 1 and 2: a head, then the houses. Reader and writer take the width and the place of every field from here.
 ghost use mathlib.Core.Path.{_≡_};
 ghost use Prim.Native.Nat.{_*_, _≤_, _<_};
 ghost use Rattle.units.specs.Datum.{datum, lift};
-ghost use Rattle.record.specs.Layout.{turn, bit};
+ghost use Rattle.record.specs.Layout.{lastTypeIn, lowestFor, turn, bit};
+use ship::kind;
 use units::AP;
 use units::LIFT;
 use units::Ordinate;
@@ -18,10 +19,12 @@ pub const HEAD_BYTES: usize = 27;
 
 pub const HOUSE_BYTES: usize = 8;
 
-// The only version; the last of the types, A is 0 and B is 1; the most houses.
-pub const VERSION: u64 = 1;
+// The versions; the last of the types; the most houses.
+pub const FIRST_VERSION: u64 = 1;
 
-pub const LAST_TYPE: u64 = 1;
+pub const LAST_VERSION: u64 = 2;
+
+pub const LAST_TYPE: u64 = kind::PORTABLE_COVERS;
 
 pub const MOST_HOUSES: u64 = 8;
 
@@ -42,6 +45,21 @@ pub struct Head {
     pub sheer: [Ordinate; 6],
     pub displacement: u64,
     pub immersion: u64,
+}
+
+// ---- versions
+// The last of the types that a version holds.
+pub fn last_type_in(version: u64) -> u64
+    ensures { λ r. ⌜ r ≡ lastTypeIn version ⌝ }
+{
+    if version == FIRST_VERSION { kind::B } else { LAST_TYPE }
+}
+
+// The lowest version that holds a ship of a type.
+pub fn lowest_for(kind: u64) -> u64
+    ensures { λ r. ⌜ r ≡ lowestFor kind ⌝ }
+{
+    if kind > last_type_in(FIRST_VERSION) { LAST_VERSION } else { FIRST_VERSION }
 }
 
 // A flag's bit.

@@ -1,14 +1,22 @@
 // How many values a field can have: two to the power of its bits.
+ghost use mathlib.Core.Path.{_≡_};
+ghost use Prim.Native.Nat.{_^_, _≤_};
+ghost use Rattle.record.specs.Layout.{kindBits, spareBits};
+use crate::FIRST_VERSION;
 use crate::width;
 
 // ---- the head
 pub const VERSION: u64 = 1 << width::VERSION;
 
-pub const KIND: u64 = 1 << width::KIND;
+const KIND_IN_1: u64 = 1 << width::KIND_IN_1;
+
+const KIND: u64 = 1 << width::KIND;
 
 pub const COUNT: u64 = 1 << width::COUNT;
 
-pub const SPARE: u64 = 1 << width::SPARE;
+const SPARE_IN_1: u64 = 1 << width::SPARE_IN_1;
+
+const SPARE: u64 = 1 << width::SPARE;
 
 pub const LENGTH: u64 = 1 << width::LENGTH;
 
@@ -36,3 +44,16 @@ pub const END: u64 = 1 << width::END;
 pub const HEIGHT: u64 = 1 << width::HEIGHT;
 
 pub const HOUSE_SPARE: u64 = 1 << width::HOUSE_SPARE;
+
+// ---- by the version
+pub fn kind(version: u64) -> u64
+    ensures { λ r. ⌜ (r ≡ 2 ^ kindBits version) × (r ≤ 8) ⌝ }
+{
+    if version == FIRST_VERSION { KIND_IN_1 } else { KIND }
+}
+
+pub fn spare(version: u64) -> u64
+    ensures { λ r. ⌜ (r ≡ 2 ^ spareBits version) × (r ≤ 64) ⌝ }
+{
+    if version == FIRST_VERSION { SPARE_IN_1 } else { SPARE }
+}

@@ -1,12 +1,22 @@
-// Document 01's table of the record: how many bits each field has.
+// The tables of the record in documents 01 and 02: how many bits each field has.
+ghost use mathlib.Core.Path.{_≡_};
+ghost use Prim.Native.Nat.{_≤_};
+ghost use Rattle.record.specs.Layout.{spareBits};
+use crate::FIRST_VERSION;
+
 // ---- the head
 pub const VERSION: u64 = 4;
 
-pub const KIND: u64 = 2;
+// In version 1, and from version 2 on.
+pub const KIND_IN_1: u64 = 2;
+
+pub const KIND: u64 = 3;
 
 pub const COUNT: u64 = 4;
 
-pub const SPARE: u64 = 6;
+pub const SPARE_IN_1: u64 = 6;
+
+pub const SPARE: u64 = 5;
 
 pub const LENGTH: u64 = 20;
 
@@ -35,3 +45,10 @@ pub const END: u64 = 21;
 pub const HEIGHT: u64 = 13;
 
 pub const HOUSE_SPARE: u64 = 7;
+
+// ---- by the version
+pub fn spare(version: u64) -> u64
+    ensures { λ r. ⌜ (r ≡ spareBits version) × (r ≤ 6) ⌝ }
+{
+    if version == FIRST_VERSION { SPARE_IN_1 } else { SPARE }
+}

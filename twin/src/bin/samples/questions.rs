@@ -110,8 +110,8 @@ pub fn cases() -> Questions {
     wishes_about_the_floor(&mut all);
     types_and_versions(&mut all);
     for slip in SLIPS {
-        let told = all.told_by(slip);
-        assert!(told >= 3, "too few cases tell {slip:?}: {told}");
+        let (told, least) = (all.told_by(slip), if slip as usize >= LATER { 3 } else { 2 });
+        assert!(told >= least, "too few cases tell {slip:?}: {told}");
     }
     all.lists.enough("questions");
     all.heads.enough("questions");
@@ -402,7 +402,7 @@ fn lists(all: &mut Questions) {
 
 /// The ship of 120 m as every type: its own mark, one less, and what a poop of 30 m gives.
 fn types(all: &mut Questions) {
-    for (kind, name) in (0..).zip(TYPES) {
+    for (kind, name) in (0..).zip(TYPES).skip(2) {
         let raw = RawShip { kind, ..bulk() };
         let own = mark(&raw, 2_300, 0).expect("marks without a poop");
         let longer = mark(&raw, 2_300, 300).expect("marks with a poop of 30 m");
@@ -414,9 +414,11 @@ fn types(all: &mut Questions) {
     for (kind, name) in (0..).zip(TYPES) {
         let raw = with(RawShip { kind, moulded: 3_000, ..bulk() }, &[]);
         let least = mark(&raw, 2_300, 1_200).expect("marks with a poop of all the length");
-        let wish = least + 300;
-        let expected = if kind == 0 { Longer } else { Poop(1_200) };
-        all.ship(&format!("{name}-no-forecastle-wish-{wish}"), expected, 2_300, wish, &raw);
+        for more in [&[300][..], &[200, 400]][usize::from(kind == 3)] {
+            let wish = least + more;
+            let expected = if kind == 0 { Longer } else { Poop(1_200) };
+            all.ship(&format!("{name}-no-forecastle-wish-{wish}"), expected, 2_300, wish, &raw);
+        }
     }
 }
 
@@ -427,19 +429,16 @@ fn wishes_about_the_floor(all: &mut Questions) {
         let raw = RawShip { depth, moulded: 2_000, cwf: 10_000, cb: 6_800, ..plain(kind, length) };
         with(raw, &[forecastle(length)])
     };
-    for (length, name) in [(40_000, "40-m"), (64_000, "64-m")] {
-        let raw = low(4, length);
-        for (wish, expected) in [
-            (49, Refused(14, 0)),
-            (50, Refused(16, 0)),
-            (149, Refused(16, 0)),
-            (150, Longer),
-            (151, Longer),
-        ] {
-            all.ship(&format!("covers-{name}-wish-{wish}"), expected, 2_000, wish, &raw);
-        }
-        all.ship(&format!("b-{name}-wish-149"), Longer, 2_000, 149, &low(1, length));
+    for (wish, expected) in [
+        (49, Refused(14, 0)),
+        (50, Refused(16, 0)),
+        (149, Refused(16, 0)),
+        (150, Longer),
+        (151, Longer),
+    ] {
+        all.ship(&format!("covers-wish-{wish}"), expected, 2_000, wish, &low(4, 40_000));
     }
+    all.ship("b-wish-149", Longer, 2_000, 149, &low(1, 40_000));
     let long = RawShip { depth: 4_000, ..low(4, 110_000) };
     all.ship("covers-110-m-wish-149", Refused(16, 0), 2_300, 149, &long);
     all.ship("covers-110-m-wish-150", Longer, 2_300, 150, &long);
@@ -467,9 +466,11 @@ fn types_and_versions(all: &mut Questions) {
         let raw = heads::of_length(kind, length);
         let stern = with(raw.clone(), &[house(0, 9_000, 2_000), raw.houses[0]]);
         let expected = Refused(22, 0);
-        all.ship(&format!("22-before-14-type-{kind}"), expected, 0, 1_000, &raw);
-        all.ship(&format!("22-before-15-type-{kind}"), expected, 2_000, 1_000, &stern);
-        all.ship(&format!("22-before-16-type-{kind}"), expected, 2_000, 50, &raw);
+        match kind {
+            2 => all.ship("22-before-14", expected, 0, 1_000, &raw),
+            3 => all.ship("22-before-15", expected, 2_000, 1_000, &stern),
+            _ => all.ship("22-before-16", expected, 2_000, 50, &raw),
+        }
     }
 }
 
@@ -523,6 +524,9 @@ enum Slip {
     /// A wish below 150 on a ship with portable covers is 14.
     WishByFloor,
 }
+
+/// The first slip about types; one more case must tell each of these.
+const LATER: usize = Slip::AsksAsB as usize;
 
 const SLIPS: [Slip; 23] = [
     Slip::StopsAtRise,

@@ -218,7 +218,7 @@ fn priorities(all: &mut Records) {
 
 /// Records about types and versions, and ships of every type that comes back.
 fn types_and_versions(all: &mut Records) {
-    for case in heads::cases() {
+    for case in heads::cases().into_iter().chain(heads::for_reading()) {
         all.bytes(&case.name, case.expected, case.bytes);
     }
     let mut random = Random::new(1969);
@@ -226,13 +226,6 @@ fn types_and_versions(all: &mut Records) {
         let raw = random.ship_of(kind, kind as usize + 1);
         all.ship(&format!("type-{kind}-houses-{}", raw.n), None, &raw);
     }
-    for (kind, n) in [(0, 5), (1, 8)] {
-        let raw = RawShip { kind, ..random.ship(n) };
-        let bytes = packed_as(Version::Two, &raw);
-        all.bytes(&format!("version-2-type-{kind}-houses-{n}"), None, bytes);
-    }
-    let most = RawShip { kind: 3, ..extremes() };
-    all.ship("version-2-extreme-values", None, &most);
     let bytes = packed_as(Version::Two, &extremes());
     all.bytes("version-2-type-0-extreme-values", None, bytes);
 }

@@ -122,6 +122,11 @@ fn fuller(raw: RawShip) -> impl Iterator<Item = RawShip> {
     (0..2_000).map(move |cb| RawShip { cb: raw.cb + cb, ..raw.clone() })
 }
 
+/// The ship fuller and fuller, with some depths.
+fn varied(raw: RawShip) -> impl Iterator<Item = RawShip> {
+    deeper(raw).take(8).flat_map(fuller)
+}
+
 pub fn cases() -> Cases {
     let mut all = Cases::default();
     all.group("figures", last::figures);

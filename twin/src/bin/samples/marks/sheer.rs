@@ -1,6 +1,6 @@
 //! Regulation 38.
 
-use super::{deeper, fuller, telling, Cases};
+use super::{deeper, telling, varied, Cases};
 use crate::ships::{decked, forecastle, house, open, plain, sheer, with, KINDS};
 use crate::slips::Slip;
 use twin::marks::steps;
@@ -117,11 +117,6 @@ fn middled(kind: u64, length: u64, reaches: bool, sheer: [i64; 6]) -> RawShip {
     let l = length as i64;
     let fore = if reaches { l * 3 / 5 + 1 } else { (l - 1) / 2 };
     RawShip { sheer, ..decked(kind, length, &[house(l * 2 / 5, fore, 2_000)]) }
-}
-
-/// The ship fuller and fuller, with some depths.
-fn varied(raw: RawShip) -> impl Iterator<Item = RawShip> {
-    deeper(raw).take(8).flat_map(fuller)
 }
 
 /// The first of these ships for which the freeboard is a whole mm, and not for the bow's sake.

@@ -1,6 +1,6 @@
 //! Regulations 27, 37 and 40 for the five types: their lines, their floors, and what they share.
 
-use super::{deeper, fuller, telling, Cases};
+use super::{fuller, telling, varied, Cases};
 use crate::ships::{bulk, decked, forecastle, house, k2, plain, quarterdeck, sheer, with, TYPES};
 use crate::slips::Slip;
 use twin::marks;
@@ -31,11 +31,11 @@ fn figures(all: &mut Cases) {
 fn reduced(all: &mut Cases) {
     for (length, slip) in [
         (100_001, Slip::ReducedDown),
-        (100_002, Slip::ReducedNearest),
-        (120_003, Slip::ReducedDown),
-        (144_444, Slip::ReducedNearest),
+        (100_003, Slip::ReducedNearest),
+        (133_333, Slip::ReducedNearest),
+        (144_444, Slip::ReducedDown),
         (200_004, Slip::ReducedDown),
-        (287_502, Slip::ReducedNearest),
+        (287_501, Slip::ReducedNearest),
         (364_999, Slip::ReducedDown),
         (100_005, Slip::ReducedNever),
         (113_500, Slip::ReducedRows),
@@ -43,7 +43,7 @@ fn reduced(all: &mut Cases) {
         (240_000, Slip::ReducedForty),
         (365_000, Slip::ReducedForty),
     ] {
-        let raw = telling(slip, deeper(decked(2, length, &[house(1, 20_000, 2_300)])));
+        let raw = telling(slip, varied(decked(2, length, &[house(1, 20_000, 2_300)])));
         all.marks(&format!("b60-at-{length}"), &raw);
     }
     for length in [100_001, 112_345, 166_500, 200_001, 365_000] {
@@ -61,9 +61,9 @@ fn covers(all: &mut Cases) {
         let l = length as i64;
         let raw = decked(4, length, &[house(1, l / 4, 2_300)]);
         let raw = match length {
-            108_001 | 199_999 => telling(Slip::CoversRowBelow, deeper(raw)),
-            108_499 => telling(Slip::CoversMm, deeper(raw)),
-            108_999 => telling(Slip::CoversRowNearest, deeper(raw)),
+            108_001 | 199_999 => telling(Slip::CoversRowBelow, varied(raw)),
+            108_499 => telling(Slip::CoversMm, varied(raw)),
+            108_999 => telling(Slip::CoversRowNearest, varied(raw)),
             _ => raw,
         };
         all.marks(&format!("covers-at-{length}"), &raw);

@@ -77,23 +77,23 @@ fn limited_cb(ship: &Ship) -> Fraction {
 
 /// 27 and 28: the type's line.
 fn tabular(ship: &Ship, l: &Fraction) -> Fraction {
-    let a = between_rows(l, &table28::TYPE_A, table28::FIRST);
-    let b = between_rows(l, &table28::TYPE_B, table28::FIRST);
+    let row = |rows: &[u16], first: usize| between_rows(ship.length, l, rows, first);
+    let a = row(&table28::TYPE_A, table28::FIRST);
+    let b = row(&table28::TYPE_B, table28::FIRST);
     match ship.kind {
         Kind::A => a,
         Kind::B => b,
         Kind::B60 => &b - over(60, 100) * (&b - &a),
-        Kind::B100 => &b - whole(1) * (&b - &a),
-        Kind::Covers => b + between_rows(l, &table27::INCREASE, table27::FIRST),
+        Kind::B100 => &b - over(100, 100) * (&b - &a),
+        Kind::Covers => b + row(&table27::INCREASE, table27::FIRST),
     }
 }
 
-/// Linear between the rows about L, m; the first row counts for every shorter ship.
-fn between_rows(l: &Fraction, rows: &[u16], first: usize) -> Fraction {
-    let metres = |row: usize| whole((first + row) as i64);
-    let above = (0..rows.len()).find(|&row| metres(row) > *l).unwrap_or(rows.len());
-    let points: Vec<_> = (above.saturating_sub(1)..rows.len().min(above + 1))
-        .map(|row| (metres(row), whole(rows[row])))
+/// Linear between the rows about L, in mm and in m; the first row counts for every shorter ship.
+fn between_rows(mm: i64, l: &Fraction, rows: &[u16], first: usize) -> Fraction {
+    let row = ((mm / 1000) as usize).saturating_sub(first);
+    let points: Vec<_> = (row..rows.len().min(row + 2))
+        .map(|i| (whole((first + i) as i64), whole(rows[i])))
         .collect();
     linear(l, &points)
 }

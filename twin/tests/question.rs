@@ -86,8 +86,8 @@ fn agrees_with_a_search_over_records() {
     let mut amidships = 0;
     while answers.iter().sum::<i32>() < 120 {
         let n = random.between(0, 3) as usize;
-        let raw = RawShip { kind: random.between(0, 1) as u64, ..random.any_ship(n) };
-        if raw.length > 60_000 || raw.houses[..n].first().is_some_and(|house| house.aft <= 0) {
+        let raw = random.any_ship(n);
+        if raw.length > 110_000 || raw.houses[..n].first().is_some_and(|house| house.aft <= 0) {
             continue;
         }
         let height = random.between(1, 3_000) as u64;

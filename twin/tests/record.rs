@@ -71,8 +71,9 @@ fn damaged_records() {
             bytes[bit / 8] ^= 0x80 >> (bit % 8);
         }
         match read(&bytes) {
-            Ok(ship) => assert_eq!(packed(&ship.raw()), bytes),
-            Err(refusal) => assert!(matches!(refusal.number, 2..=11 | 18)),
+            Ok(ship) if bytes[0] >> 4 == 1 => assert_eq!(packed(&ship.raw()), bytes),
+            Ok(ship) => assert_eq!(read(&packed(&ship.raw())), Ok(ship)),
+            Err(refusal) => assert!(matches!(refusal.number, 2..=11 | 18 | 22)),
         }
     }
 }
@@ -92,7 +93,8 @@ fn header_refusals_in_order() {
     assert_eq!(read(&[0xff; 26]).err(), refused(1, 0));
     assert_eq!(read(&[0xff; 27]).err(), refused(2, 0));
     assert_eq!(read_with(&k1(), &[]), None);
-    assert_eq!(read_with(&k1(), &[(0, 4, 2), (4, 2, 3)]), refused(2, 0));
+    assert_eq!(read_with(&k1(), &[(0, 4, 3), (4, 2, 3)]), refused(2, 0));
+    assert_eq!(read_with(&k1(), &[(0, 4, 0), (4, 2, 3)]), refused(2, 0));
     assert_eq!(read_with(&k1(), &[(4, 2, 2), (6, 4, 9)]), refused(3, 0));
     assert_eq!(read_with(&k1(), &[(6, 4, 9), (10, 6, 1)]), refused(4, 0));
     assert_eq!(read_with(&k1(), &[(6, 4, 8), (10, 6, 1)]), refused(5, 0));
@@ -129,7 +131,9 @@ fn writer_refusals() {
         assert!(buffer.iter().all(|&byte| byte == 0xa5));
         Some(refusal)
     };
-    assert_eq!(attempt(0, &RawShip { kind: 2, n: 9, ..k1() }), refused(3, 0));
+    assert_eq!(attempt(0, &RawShip { kind: 5, n: 9, ..k1() }), refused(3, 0));
+    assert_eq!(attempt(0, &RawShip { kind: u64::MAX, n: 9, ..k1() }), refused(3, 0));
+    assert_eq!(attempt(0, &RawShip { kind: (1 << 32) + 1, ..k1() }), refused(3, 0));
     assert_eq!(attempt(0, &RawShip { n: u64::MAX, length: 0, ..k1() }), refused(4, 0));
     for i in 0..6 {
         let mut raw = RawShip { displacement: 1 << 20, ..k1() };

@@ -1,7 +1,7 @@
 -- The head's fields, by shifts and remainders of four words.
 use Prim.Native.Nat.{ℕ, _+_, _*_, _/_, _%_, _^_, _≤_}
 use mathlib.Core.List.{List, [], _∷_, _++_}
-use mathlib.Core.Path.{_≡_, refl, ap, _∙_}
+use mathlib.Core.Path.{_≡_, refl, sym, ap, _∙_}
 use lib.ListN.{length, take, drop, getD}
 use native.Mathlib.Omega.{arith}
 use Rattle.bits.specs.Fields.{number, unpack, piece, Bytes}
@@ -9,18 +9,20 @@ use Rattle.bits.proofs.Joined.{unpack-parts}
 use Rattle.units.specs.declared.Ordinate.{Ordinate}
 use Rattle.units.specs.Datum.{lift}
 use Rattle.record.specs.declared.Head.{Head}
-use Rattle.record.specs.Layout.{headWidths, headOf, headIn, ordinateIn}
+use Rattle.record.specs.Layout.{kindBits, spareBits, headWidths, headOf, versionIn, headIn, ordinateIn}
 use Rattle.record.proofs.Complement.{turn-low}
+use Rattle.record.proofs.Parts.{eight-bits, version-first}
 use Rattle.record.specs.Words.{firstWidths, fullnessWidths, fourWidths, lastWidths, sheerIn}
 use Rattle.bits.proofs.Cut.{piece-cut}
 
--- the head that four words hold, as the reader takes them apart, with its ordinates of sheer
-abbrev pub headOfWords : ℕ → ℕ → ℕ → List Ordinate → Head
-headOfWords a b d o = record {
+-- the head that four words hold, as the reader takes them apart, with its ordinates of sheer: how many bits stand after the type and after n, and how many values
+-- the type and the spare can have
+abbrev pub headCut : ℕ → ℕ → ℕ → ℕ → ℕ → ℕ → ℕ → List Ordinate → Head
+headCut after-kind kinds after-count spares a b d o = record {
   version = a / 2 ^ 60 % 2 ^ 4;
-  kind = a / 2 ^ 58 % 2 ^ 2;
-  count = a / 2 ^ 54 % 2 ^ 4;
-  spare = a / 2 ^ 48 % 2 ^ 6;
+  kind = a / 2 ^ after-kind % kinds;
+  count = a / 2 ^ after-count % 2 ^ 4;
+  spare = a / 2 ^ 48 % spares;
   length = record { 0 = a / 2 ^ 28 % 2 ^ 20 };
   depth = record { 0 = a / 2 ^ 12 % 2 ^ 16 };
   moulded = record { 0 = a % 2 ^ 12 * 2 ^ 4 + b / 2 ^ 28 % 2 ^ 4 };
@@ -31,32 +33,43 @@ headOfWords a b d o = record {
   immersion = d % 2 ^ 16;
 }
 
+-- as a version has them
+abbrev pub headOfWords : ℕ → ℕ → ℕ → ℕ → List Ordinate → Head
+headOfWords version a b d o = headCut (52 + spareBits version) (2 ^ kindBits version) (48 + spareBits version) (2 ^ spareBits version) a b d o
+
 -- all fields, M in two
-abbrev cut : List ℕ
-cut = firstWidths ++ fullnessWidths ++ fourWidths ++ lastWidths
+abbrev cut : ℕ → List ℕ
+cut version = firstWidths version ++ fullnessWidths ++ fourWidths ++ lastWidths
 
 -- and M whole again
 abbrev joined : List ℕ → List ℕ
 joined f = take 6 f ++ ((getD f 6 0 * 2 ^ 4 + getD f 7 0) ∷ drop 8 f)
 
-join-cut : (n : ℕ) → unpack headWidths n ≡ joined (unpack cut n)
+join-cut : (version n : ℕ) → unpack (headWidths version) n ≡ joined (unpack (cut version) n)
 unfolding unpack
-join-cut n = ap (λ (m : ℕ). take 6 (unpack headWidths n) ++ (m ∷ unpack (drop 7 headWidths) n)) (piece-cut n 148 12 4)
+join-cut version n = ap (λ (m : ℕ). take 6 (unpack (headWidths version) n) ++ (m ∷ unpack (drop 7 (headWidths version)) n)) (piece-cut n 148 12 4)
 
 -- an ordinate from a word, and from its piece
 ordinate-piece : (n a : ℕ) → ordinateIn (piece n a 14) ≡ ordinateIn (n / 2 ^ a)
 unfolding piece
 ordinate-piece n a = λ i. record { 0 = turn-low lift (n / 2 ^ a) i }
 
-pieces : (a b c d : ℕ) → headOf (joined (unpack firstWidths a ++ unpack fullnessWidths b ++ unpack fourWidths c ++ unpack lastWidths d)) ≡ headOfWords a b d (sheerIn c d)
+-- what stands after the version, and after the type and n
+after-version : (version : ℕ) → kindBits version + (4 + (spareBits version + 48)) ≡ 60
+after-version version = omega (arith, eight-bits version)
+
+pieces : (version a b c d : ℕ)
+    → headOf (joined (unpack (firstWidths version) a ++ unpack fullnessWidths b ++ unpack fourWidths c ++ unpack lastWidths d)) ≡ headOfWords version a b d (sheerIn c d)
 unfolding unpack piece
-pieces a b c d =
+pieces version a b c d =
+    let after-kind : 4 + (spareBits version + 48) ≡ 52 + spareBits version = omega arith in
+    let after-count : spareBits version + 48 ≡ 48 + spareBits version = omega arith in
     let whole : (n : ℕ) → n / 2 ^ 0 ≡ n = λ n. omega arith in
     λ i. record {
-      version = a / 2 ^ 60 % 2 ^ 4;
-      kind = a / 2 ^ 58 % 2 ^ 2;
-      count = a / 2 ^ 54 % 2 ^ 4;
-      spare = a / 2 ^ 48 % 2 ^ 6;
+      version = a / 2 ^ after-version version i % 2 ^ 4;
+      kind = a / 2 ^ after-kind i % 2 ^ kindBits version;
+      count = a / 2 ^ after-count i % 2 ^ 4;
+      spare = a / 2 ^ 48 % 2 ^ spareBits version;
       length = record { 0 = a / 2 ^ 28 % 2 ^ 20 };
       depth = record { 0 = a / 2 ^ 12 % 2 ^ 16 };
       moulded = record { 0 = whole a i % 2 ^ 12 * 2 ^ 4 + b / 2 ^ 28 % 2 ^ 4 };
@@ -74,13 +87,23 @@ abbrev part : List ℕ → ℕ → ℕ → ℕ
 part s n m = number (take m (drop n s))
 
 module _ (s : List ℕ) (bs : Bytes s) (h : 27 ≤ length s) where
-  words : unpack cut (number (take 27 s)) ≡ unpack firstWidths (part s 0 8) ++ unpack fullnessWidths (part s 8 4) ++ unpack fourWidths (part s 12 7) ++ unpack lastWidths (part s 19 8)
+  words : (version : ℕ) → unpack (cut version) (number (take 27 s)) ≡ unpack (firstWidths version) (part s 0 8) ++ unpack fullnessWidths (part s 8 4) ++ unpack fourWidths (part s 12 7) ++ unpack lastWidths (part s 19 8)
   unfolding unpack
-  words =
-      unpack-parts s 19 8 (omega arith) bs (firstWidths ++ fullnessWidths ++ fourWidths) lastWidths refl
-      ∙ ap (λ (l : List ℕ). l ++ unpack lastWidths (part s 19 8)) (unpack-parts s 12 7 (omega arith) bs (firstWidths ++ fullnessWidths) fourWidths refl
-      ∙ ap (λ (l : List ℕ). l ++ unpack fourWidths (part s 12 7)) (unpack-parts s 8 4 (omega arith) bs firstWidths fullnessWidths refl))
+  words version =
+      unpack-parts s 19 8 (omega arith) bs (firstWidths version ++ fullnessWidths ++ fourWidths) lastWidths refl
+      ∙ ap (λ (l : List ℕ). l ++ unpack lastWidths (part s 19 8)) (unpack-parts s 12 7 (omega arith) bs (firstWidths version ++ fullnessWidths) fourWidths refl
+      ∙ ap (λ (l : List ℕ). l ++ unpack fourWidths (part s 12 7)) (unpack-parts s 8 4 (omega arith) bs (firstWidths version) fullnessWidths refl))
 
-  pub head-words : headIn s ≡ headOfWords (part s 0 8) (part s 8 4) (part s 19 8) (sheerIn (part s 12 7) (part s 19 8))
+  -- the version, by which the others are cut, is in the first word
+  version-there : versionIn s ≡ part s 0 8 / 2 ^ 60 % 2 ^ 4
+  unfolding piece
+  version-there =
+      sym (version-first 1 (number (take 27 s))) ∙ ap (λ (fs : List ℕ). getD fs 0 0) (join-cut 1 (number (take 27 s)) ∙ ap joined (words 1))
+      ∙ ap (λ (f : Head). f .version) (pieces 1 (part s 0 8) (part s 8 4) (part s 12 7) (part s 19 8))
+
+  pub head-words : (version : ℕ) → version ≡ part s 0 8 / 2 ^ 60 % 2 ^ 4
+      → headIn s ≡ headOfWords version (part s 0 8) (part s 8 4) (part s 19 8) (sheerIn (part s 12 7) (part s 19 8))
   unfolding headIn
-  head-words = ap headOf (join-cut (number (take 27 s)) ∙ ap joined words) ∙ pieces (part s 0 8) (part s 8 4) (part s 12 7) (part s 19 8)
+  head-words version e =
+      ap (λ (v : ℕ). headOf (unpack (headWidths v) (number (take 27 s)))) (version-there ∙ sym e)
+      ∙ ap headOf (join-cut version (number (take 27 s)) ∙ ap joined (words version)) ∙ pieces version (part s 0 8) (part s 8 4) (part s 12 7) (part s 19 8)

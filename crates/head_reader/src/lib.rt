@@ -41,14 +41,18 @@ pub fn read(s: &[u8]) -> Head
     let four = bits::word(&s[12..19]);
     let last = bits::word(&s[19..27]);
     let sheer = sheer_in(four, last);
+    let version = (first >> after::VERSION) % range::VERSION;
+    let kind = first >> after::kind(version);
+    let count = first >> after::count(version);
+    let spare = first >> after::SPARE;
     // M begins in the first word and ends in the second.
     let high = first % range::MOULDED_FIRST;
     let low = (fullness >> after::MOULDED_LAST) % range::MOULDED_LAST;
     Head {
-        version: (first >> after::VERSION) % range::VERSION,
-        kind: (first >> after::KIND) % range::KIND,
-        count: (first >> after::COUNT) % range::COUNT,
-        spare: (first >> after::SPARE) % range::SPARE,
+        version,
+        kind: kind % range::kind(version),
+        count: count % range::COUNT,
+        spare: spare % range::spare(version),
         length: Span((first >> after::LENGTH) % range::LENGTH),
         depth: Span((first >> after::DEPTH) % range::DEPTH),
         moulded: Span(high * range::MOULDED_LAST + low),
@@ -64,10 +68,10 @@ pub fn read(s: &[u8]) -> Head
 pub fn check_head(h: Head, bytes: usize) -> Verdict
     ensures { λ v. ⌜ paper v ≡ first (headLines h bytes) ⌝ }
 {
-    if h.version != record::VERSION {
+    if (h.version == 0) | (record::LAST_VERSION < h.version) {
         return Verdict::Refused(Refusal::Version);
     }
-    if h.kind > record::LAST_TYPE {
+    if h.kind > record::last_type_in(h.version) {
         return Verdict::Refused(Refusal::ShipType);
     }
     if h.count > record::MOST_HOUSES {

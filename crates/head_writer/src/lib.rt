@@ -1,22 +1,30 @@
 // The head of a record as four words, written over its 27 bytes: in a word each field shifts those before it up by its range.
 ghost use mathlib.Core.Path.{_≡_};
-ghost use Prim.Native.Nat.{_-_, _≤_};
+ghost use Prim.Native.Nat.{_-_, _≤_, _<_};
 ghost use mathlib.Core.List.{_++_};
-ghost use lib.ListN.{length};
+ghost use lib.ListN.{length, take};
 ghost use Rattle.bits.specs.Fields.{pack, bytes, Fit};
-ghost use Rattle.record.specs.Layout.{headWidths, headFields, headBytes};
+ghost use Rattle.record.specs.Layout.{openingWidths, headWidths, headFields, headBytes};
 ghost use Rattle.record.specs.Words.{firstWidths, fullnessWidths, fourWidths, lastWidths, firstFields, fullnessFields, fourFields, lastFields};
 use record::Head;
 use record::range;
 
-// Version, type, houses n, spare, L, D and the first bits of M.
-fn first_word(h: Head) -> u64
-    requires { ⌜ Fit headWidths (headFields h) ⌝ }
-    ensures { λ r. ⌜ r ≡ pack firstWidths (firstFields h) ⌝ }
+// Version, type, houses n and spare, in the bits that the version has for each: 16 together.
+fn opening(h: Head) -> u64
+    requires { ⌜ Fit (headWidths (h .version)) (headFields h) ⌝ }
+    ensures { λ r. ⌜ (r ≡ pack (openingWidths (h .version)) (take 4 (headFields h))) × (r < 65536) ⌝ }
 {
-    let word = h.version * range::KIND + h.kind;
+    let word = h.version * range::kind(h.version) + h.kind;
     let word = word * range::COUNT + h.count;
-    let word = word * range::SPARE + h.spare;
+    word * range::spare(h.version) + h.spare
+}
+
+// Then L, D and the first bits of M.
+fn first_word(h: Head) -> u64
+    requires { ⌜ Fit (headWidths (h .version)) (headFields h) ⌝ }
+    ensures { λ r. ⌜ r ≡ pack (firstWidths (h .version)) (firstFields h) ⌝ }
+{
+    let word = opening(h);
     let word = word * range::LENGTH + h.length.0;
     let word = word * range::DEPTH + h.depth.0;
     word * range::MOULDED_FIRST + h.moulded.0 / range::MOULDED_LAST
@@ -24,7 +32,7 @@ fn first_word(h: Head) -> u64
 
 // The last bits of M, Cb and Cwf.
 fn fullness_word(h: Head) -> u64
-    requires { ⌜ Fit headWidths (headFields h) ⌝ }
+    requires { ⌜ Fit (headWidths (h .version)) (headFields h) ⌝ }
     ensures { λ r. ⌜ r ≡ pack fullnessWidths (fullnessFields h) ⌝ }
 {
     let word = h.moulded.0 % range::MOULDED_LAST * range::BLOCK + h.block;
@@ -44,7 +52,7 @@ fn four_word(h: Head) -> u64
 
 // The last two, displacement and immersion.
 fn last_word(h: Head) -> u64
-    requires { ⌜ Fit headWidths (headFields h) ⌝ }
+    requires { ⌜ Fit (headWidths (h .version)) (headFields h) ⌝ }
     ensures { λ r. ⌜ r ≡ pack lastWidths (lastFields h) ⌝ }
 {
     let o = h.sheer;
@@ -65,7 +73,7 @@ fn put_two(out: &mut [u8], at: usize, a: u64, b: u64)
 
 // Writes a head over 27 bytes.
 pub fn write(out: &mut [u8], h: Head)
-    requires { ⌜ (length (now out) ≡ 27) × Fit headWidths (headFields h) ⌝ }
+    requires { ⌜ (length (now out) ≡ 27) × Fit (headWidths (h .version)) (headFields h) ⌝ }
     ensures { λ _. ⌜ now (out .exit) ≡ headBytes h ⌝ }
 {
     let first = first_word(h);

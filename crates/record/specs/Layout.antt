@@ -23,9 +23,14 @@ kindBits version = pick (eqb version 1) 2 3
 unfoldable pub spareBits : ℕ → ℕ
 spareBits version = pick (eqb version 1) 6 5
 
--- version, type, houses n, spare; L, D, M, Cb, Cwf; six ordinates of sheer; displacement, immersion
+-- version, type, houses n, spare
+abbrev pub openingWidths : ℕ → List ℕ
+openingWidths version = 4 ∷ kindBits version ∷ 4 ∷ spareBits version ∷ []
+
+-- then, in every version, L, D, M, Cb, Cwf; six ordinates of sheer; displacement, immersion
 abbrev pub headWidths : ℕ → List ℕ
-headWidths version = 4 ∷ kindBits version ∷ 4 ∷ spareBits version ∷ 20 ∷ 16 ∷ 16 ∷ 14 ∷ 14 ∷ 14 ∷ 14 ∷ 14 ∷ 14 ∷ 14 ∷ 14 ∷ 20 ∷ 16 ∷ []
+headWidths version =
+    openingWidths version ++ (20 ∷ 16 ∷ 16 ∷ 14 ∷ 14 ∷ 14 ∷ 14 ∷ 14 ∷ 14 ∷ 14 ∷ 14 ∷ 20 ∷ 16 ∷ [])
 
 -- enclosed, raised quarterdeck, aft end, fore end, height, spare
 abbrev pub houseWidths : List ℕ

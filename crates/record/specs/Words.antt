@@ -5,12 +5,12 @@ use mathlib.Core.List.{List, [], _∷_, _++_}
 use lib.ListN.{take, drop}
 use Rattle.units.specs.declared.Ordinate.{Ordinate}
 use Rattle.record.specs.declared.Head.{Head}
-use Rattle.record.specs.Layout.{kindBits, spareBits, headFields, ordinateIn}
+use Rattle.record.specs.Layout.{openingWidths, headFields, ordinateIn}
 
 -- ---- the widths of the fields in each
 -- version, type, houses n, spare, L, D, the first bits of M
 abbrev pub firstWidths : ℕ → List ℕ
-firstWidths version = 4 ∷ kindBits version ∷ 4 ∷ spareBits version ∷ 20 ∷ 16 ∷ 12 ∷ []
+firstWidths version = openingWidths version ++ (20 ∷ 16 ∷ 12 ∷ [])
 
 -- the last bits of M, Cb, Cwf
 abbrev pub fullnessWidths : List ℕ

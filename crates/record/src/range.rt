@@ -1,6 +1,6 @@
 // How many values a field can have: two to the power of its bits.
 ghost use mathlib.Core.Path.{_≡_};
-ghost use Prim.Native.Nat.{_^_, _≤_};
+ghost use Prim.Native.Nat.{_^_, _≤_, _<_};
 ghost use Rattle.record.specs.Layout.{kindBits, spareBits};
 use crate::FIRST_VERSION;
 use crate::width;
@@ -47,13 +47,13 @@ pub const HOUSE_SPARE: u64 = 1 << width::HOUSE_SPARE;
 
 // ---- by the version
 pub fn kind(version: u64) -> u64
-    ensures { λ r. ⌜ (r ≡ 2 ^ kindBits version) × (r ≤ 8) ⌝ }
+    ensures { λ r. ⌜ (r ≡ 2 ^ kindBits version) × (0 < r) × (r ≤ 8) ⌝ }
 {
     if version == FIRST_VERSION { KIND_IN_1 } else { KIND }
 }
 
 pub fn spare(version: u64) -> u64
-    ensures { λ r. ⌜ (r ≡ 2 ^ spareBits version) × (r ≤ 64) ⌝ }
+    ensures { λ r. ⌜ (r ≡ 2 ^ spareBits version) × (0 < r) × (r ≤ 64) ⌝ }
 {
     if version == FIRST_VERSION { SPARE_IN_1 } else { SPARE }
 }

@@ -1,7 +1,7 @@
 //! Ships that the figures are stated for.
 #![allow(dead_code)]
 
-use twin::record::{self, House, RawShip, Ship};
+use twin::record::{self, House, RawShip, Ship, Version};
 
 pub fn house(aft: i64, fore: i64, height: u64) -> House {
     House { enclosed: true, quarterdeck: false, aft, fore, height }
@@ -37,9 +37,21 @@ pub fn ship(raw: &RawShip) -> Ship {
     raw.check().expect("a valid ship")
 }
 
-/// The record as bytes, checked or not.
+/// Type B, 120 m, with a forecastle: the ship that the figures of all five types are stated for.
+pub fn bulk() -> RawShip {
+    let hex = "14401d4c01f401f406a41f40138822b023011811589c4000000000835b601d4c047e00";
+    let digits = (0..hex.len()).step_by(2).map(|i| u8::from_str_radix(&hex[i..i + 2], 16));
+    let record: Vec<u8> = digits.collect::<Result<_, _>>().expect("a record in hex");
+    record::read(&record).expect("a sound record").raw()
+}
+
+/// The record as bytes, checked or not, in the lowest version that holds the ship.
 pub fn packed(raw: &RawShip) -> Vec<u8> {
+    packed_as(Version::lowest(raw.kind), raw)
+}
+
+pub fn packed_as(version: Version, raw: &RawShip) -> Vec<u8> {
     let mut bytes = vec![0; record::record_bytes(raw.n.min(8) as usize)];
-    record::pack(&mut bytes, raw);
+    record::pack_as(version, &mut bytes, raw);
     bytes
 }

@@ -1,13 +1,13 @@
 -- Each return is at the first line that fails: the tests before it are known to pass.
 use Prim.Native.Nat.{_≤_, _<_}
 use mathlib.Core.Logic.{_≢_}
-use mathlib.Core.Path.{_≡_}
+use mathlib.Core.Path.{_≡_, refl}
 use borrow.Author.Tests.{le-ltb, lt-ltb, eq-eqb, ne-eqb}
 use native.Mathlib.Omega.{arith}
 use borrow.Author.Needs.{needs}
 use Rattle.whole.specs.Pick.{pick}
 use Rattle.ship.specs.Refusals.{first}
-use Rattle.record.specs.Layout.{recordLength}
+use Rattle.record.specs.Layout.{recordLength, lastTypeIn}
 use Rattle.head_reader.proofs.check_head.Statement.{statement}
 use Rattle.head_reader.proofs.check_head.Tie as tie
 
@@ -16,33 +16,38 @@ unfolding first pick
 check-head-spec =
     tie.close
     (tie.spec
-    (λ c. simp (ne-eqb _ _ (c .if1 .taken)))
+    (λ c. rw (c .if1 .taken) refl)
+    (λ c κs. search needs)
     (λ c.
-    let h = c .before .before .before .before .args .h in
-    let a : h .version ≡ 1 = omega arith in
-    let b : 1 < h .kind = omega arith in
-    simp (eq-eqb, lt-ltb))
+    let t = c .before .before in
+    let o = t .before in
+    let h = o .before .before .before .args .h in
+    let b : lastTypeIn (h .version) < h .kind = omega (arith, t .last-type-in .ensures) in
+    rw (o .if1 .left, lt-ltb (lastTypeIn (h .version)) (h .kind) b) refl)
     (λ c.
-    let h = c .before .before .before .before .before .before .args .h in
-    let a : h .version ≡ 1 = omega arith in
-    let b : h .kind ≤ 1 = omega arith in
+    let t = c .before .before .before .before in
+    let o = t .before in
+    let h = o .before .before .before .args .h in
+    let b : h .kind ≤ lastTypeIn (h .version) = omega (arith, t .last-type-in .ensures) in
     let d : 8 < h .count = omega arith in
-    simp (eq-eqb, le-ltb, lt-ltb))
+    rw (o .if1 .left, le-ltb (lastTypeIn (h .version)) (h .kind) b, lt-ltb 8 (h .count) d) refl)
     (λ c. search needs)
     (λ c. search needs)
     (λ c.
-    let s = c .before .before .before .before .before .before .before .args in
+    let t = c .before .before .before .before .before in
+    let o = t .before in
+    let s = o .before .before .before .args in
     let h = s .h in
-    let a : h .version ≡ 1 = omega arith in
-    let b : h .kind ≤ 1 = omega arith in
+    let b : h .kind ≤ lastTypeIn (h .version) = omega (arith, t .last-type-in .ensures) in
     let d : h .count ≤ 8 = omega arith in
     let e : s .bytes ≢ recordLength (h .count) = omega arith in
-    simp (eq-eqb, ne-eqb, le-ltb))
+    rw (o .if1 .left, le-ltb (lastTypeIn (h .version)) (h .kind) b, le-ltb 8 (h .count) d, ne-eqb (s .bytes) (recordLength (h .count)) e) refl)
     (λ c.
-    let s = c .before .before .before .before .before .before .before .args in
+    let t = c .before .before .before .before .before in
+    let o = t .before in
+    let s = o .before .before .before .args in
     let h = s .h in
-    let a : h .version ≡ 1 = omega arith in
-    let b : h .kind ≤ 1 = omega arith in
+    let b : h .kind ≤ lastTypeIn (h .version) = omega (arith, t .last-type-in .ensures) in
     let d : h .count ≤ 8 = omega arith in
     let e : s .bytes ≡ recordLength (h .count) = omega arith in
-    simp (eq-eqb, le-ltb)))
+    rw (o .if1 .left, le-ltb (lastTypeIn (h .version)) (h .kind) b, le-ltb 8 (h .count) d, eq-eqb (s .bytes) (recordLength (h .count)) e) refl))

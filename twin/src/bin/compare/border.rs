@@ -6,8 +6,7 @@ use twin::record::{RawShip, MAX_HOUSES};
 use crate::flat::{HEADER, SHIP};
 
 /// Numbers of types, and others whose low bits are those of one.
-const KINDS: [u64; 15] =
-    [0, 1, 2, 3, 4, 5, 6, 7, 8, 9, 12, 256, 1 << 32, (1 << 32) + 1, u64::MAX];
+const KINDS: [u64; 15] = [0, 1, 2, 3, 4, 5, 6, 7, 8, 9, 12, 256, 1 << 32, (1 << 32) + 1, u64::MAX];
 
 /// Puts one of the ship's numbers at a border or one beyond.
 pub fn put(random: &mut Random, raw: &mut RawShip) {

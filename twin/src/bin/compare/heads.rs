@@ -132,8 +132,10 @@ mod tests {
     #[test]
     fn types_beyond() {
         let mut random = Random::new(3);
-        let kinds: Vec<u64> =
-            (0..60_000).map(|_| Input::draw(&mut random).ship[0]).filter(|&kind| kind > 4).collect();
+        let kinds: Vec<u64> = (0..60_000)
+            .map(|_| Input::draw(&mut random).ship[0])
+            .filter(|&kind| kind > 4)
+            .collect();
         for kind in [5, 6, 7, 8, 256, 1 << 32, (1 << 32) + 1, u64::MAX] {
             assert!(kinds.contains(&kind), "{kind}");
         }

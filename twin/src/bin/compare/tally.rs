@@ -13,20 +13,12 @@ use crate::judge;
 use crate::sheer;
 
 /// Of records that are not around the borders of sheer.
-const KINDS: [Kind; 7] = [
-    Kind::Valid,
-    Kind::WholeMm,
-    Kind::Border,
-    Kind::List,
-    Kind::Head,
-    Kind::Damaged,
-    Kind::Noise,
-];
+const KINDS: [Kind; 7] =
+    [Kind::Valid, Kind::WholeMm, Kind::Border, Kind::List, Kind::Head, Kind::Damaged, Kind::Noise];
 const TYPES: [&str; 5] = ["A", "B", "B-60", "B-100", "portable covers"];
 const WRITES_BACK: &str = "writes back";
 const CALLS: [&str; 5] = ["marks", "reads", WRITES_BACK, "writes", "questions"];
-const REFUSALS: [usize; 19] =
-    [1, 2, 3, 4, 5, 6, 7, 22, 8, 9, 10, 11, 18, 12, 13, 14, 15, 16, 17];
+const REFUSALS: [usize; 19] = [1, 2, 3, 4, 5, 6, 7, 22, 8, 9, 10, 11, 18, 12, 13, 14, 15, 16, 17];
 /// One more than the greatest.
 const NUMBERS: usize = 23;
 
@@ -162,8 +154,8 @@ impl Tally {
     /// Refusals 11, 18 and 22 in each call but writing back: a ship that was read is never refused.
     fn in_each_call(&self) -> String {
         let calls = CALLS.iter().zip(&self.refusals).filter(|(call, _)| **call != WRITES_BACK);
-        let counts = calls
-            .map(|(call, seen)| format!("{call} {}, {} and {}", seen[11], seen[18], seen[22]));
+        let counts =
+            calls.map(|(call, seen)| format!("{call} {}, {} and {}", seen[11], seen[18], seen[22]));
         format!(
             "11, 18 and 22 in {}; overlaps of 1 mm {}, the greatest {} mm",
             counts.collect::<Vec<_>>().join(", "),

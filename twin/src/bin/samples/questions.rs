@@ -414,7 +414,7 @@ fn types(all: &mut Questions) {
     for (kind, name) in (0..).zip(TYPES) {
         let raw = with(RawShip { kind, moulded: 3_000, ..bulk() }, &[]);
         let least = mark(&raw, 2_300, 1_200).expect("marks with a poop of all the length");
-        for more in [&[300][..], &[200, 400]][usize::from(kind == 3)] {
+        for more in [&[300][..], &[100, 250, 400]][usize::from(kind == 3)] {
             let wish = least + more;
             let expected = if kind == 0 { Longer } else { Poop(1_200) };
             all.ship(&format!("{name}-no-forecastle-wish-{wish}"), expected, 2_300, wish, &raw);

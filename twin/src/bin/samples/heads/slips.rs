@@ -104,7 +104,10 @@ impl Heads {
     pub fn enough(&self, call: &str) {
         for &(slip, _, what) in SLIPS {
             let concerned = self.0.iter().any(|call| concerns(slip, call));
-            assert!(!concerned || self.told_by(slip) >= LEAST, "{call}: too few cases tell: {what}");
+            assert!(
+                !concerned || self.told_by(slip) >= LEAST,
+                "{call}: too few cases tell: {what}"
+            );
         }
     }
 }

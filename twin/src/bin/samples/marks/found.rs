@@ -72,7 +72,6 @@ fn search(random: &mut Random, slip: Slip) -> RawShip {
                 raw
             }
             _ if in_reduction(slip) => random.low_ship(n),
-            _ if in_types(slip) => random.any_ship(n),
             _ => random.ship(n),
         };
         if raw.check().is_ok_and(|ship| good(&ship)) {
@@ -86,14 +85,10 @@ pub fn in_reduction(slip: Slip) -> bool {
     (Slip::ReductionNever as usize..=Slip::SheerFloor as usize).contains(&(slip as usize))
 }
 
-/// The slips in a shorter working of sheer. Cases made by hand are enough for them.
-pub fn in_shorter_sheer(slip: Slip) -> bool {
-    (Slip::ForwardAboveHalf as usize..=Slip::AddedByCover as usize).contains(&(slip as usize))
-}
-
-/// The slips in the five types' lines and floors, the last ones.
-pub fn in_types(slip: Slip) -> bool {
-    slip as usize > Slip::AddedByCover as usize
+/// The slips in a shorter working of sheer and those about the five types, the last ones. Cases made by
+/// hand are enough for them.
+pub fn by_hand(slip: Slip) -> bool {
+    slip as usize > Slip::SheerFloor as usize
 }
 
 /// A short type B ship with seven low houses and a forecastle: E is worth most to it.

@@ -153,8 +153,7 @@ pub fn cases() -> Cases {
     all.group("damaged", damaged::damaged);
     all.group("random", found::every_count);
     // Each slip's ships are drawn after the cases that were there before it, so that these stay.
-    let later = [found::in_reduction, found::in_shorter_sheer, found::in_types];
-    let earlier = |slip| !later.iter().any(|later| later(slip));
+    let earlier = |slip| !found::in_reduction(slip) && !found::by_hand(slip);
     all.group("found", |all| found::for_each_slip(all, earlier));
     low::groups(&mut all);
     all.group("low-found", |all| found::for_each_slip(all, found::in_reduction));
@@ -163,7 +162,6 @@ pub fn cases() -> Cases {
     all.group("lists", damaged::lists);
     types::groups(&mut all);
     all.group("heads", damaged::heads);
-    all.group("types-found", |all| found::for_each_slip(all, found::in_types));
     for &(slip, _, what) in SLIPS {
         assert!(all.told_by(slip).len() >= LEAST, "too few cases tell: {what}");
     }

@@ -10,7 +10,7 @@ use twin::question::shortest_poop;
 use twin::random::Random;
 use twin::record::{read, write, House, Kind, RawShip, Ship, Version};
 use twin::refusal::Refusal;
-use twin::report::record_line;
+use twin::report::{hex, record_line};
 use twin::{table27, table28};
 
 fn of(kind: Kind, raw: &RawShip) -> RawShip {
@@ -215,16 +215,32 @@ fn marks_of_a_and_b100() {
     assert!(seen.iter().all(|&count| count > 100), "{seen:?}");
 }
 
-/// 110 m, a poop of 40 m and no forecastle: A gets a deduction, B-100 does not.
+/// 110 m, a poop of 20 m, and a forecastle of 6 m where 0.07 L is 7.7 m: A gets a deduction, B-100 none.
 #[test]
-fn a_and_b100_without_a_forecastle() {
-    let raw = RawShip { length: 110_000, depth: 8_000, moulded: 4_000, cwf: 9_500, ..k1() };
-    let raw = with(raw, &[house(0, 40_000, 2_200)]);
-    let [a, b100] = [Kind::A, Kind::B100].map(|kind| mark(kind, &raw).unwrap());
-    assert!(a < b100, "{a} {b100}");
-    // With a forecastle of 0.07 L they are alike.
-    let decked = with(raw, &[house(0, 40_000, 2_200), house(102_300, 110_000, 2_200)]);
-    assert_eq!(mark(Kind::A, &decked), mark(Kind::B100, &decked));
+fn a_and_b100_with_a_short_forecastle() {
+    let raw = RawShip {
+        length: 110_000,
+        depth: 8_000,
+        moulded: 8_000,
+        cwf: 9_500,
+        sheer: [1_167, 518, 131, 261, 1_036, 2_333],
+        ..k1()
+    };
+    let poop = house(0, 20_000, 2_300);
+    let with_forecastle = |aft| with(raw.clone(), &[poop, house(aft, 110_000, 2_300)]);
+    let both = |raw: &RawShip| [Kind::A, Kind::B100].map(|kind| mark(kind, raw).unwrap());
+    let short = with_forecastle(104_000);
+    assert_eq!(both(&short), [1_281, 1_446]);
+    assert_eq!(
+        [Kind::A, Kind::B100].map(|kind| hex(&packed(&of(kind, &short)))),
+        [
+            "10801adb01f401f406a4251c123c206020c105103091d00000000080000004e2047e00832c801adb047e00",
+            "26401adb01f401f406a4251c123c206020c105103091d00000000080000004e2047e00832c801adb047e00",
+        ]
+    );
+    // One of 0.07 L makes them alike.
+    assert_eq!(both(&with_forecastle(102_301)), [1_270, 1_446]);
+    assert_eq!(both(&with_forecastle(102_300)), [1_270, 1_270]);
 }
 
 /// The bound for each of the five types.
@@ -232,7 +248,7 @@ fn a_and_b100_without_a_forecastle() {
 fn bound_over_all_types() {
     let mut random = Random::new(11);
     let mut seen = [0; 5];
-    for i in 0..4_000 {
+    for i in 0..2_000 {
         let raw = random.any_ship(i % 9);
         for kind in Kind::ALL {
             let Ok(ship) = of(kind, &raw).check() else { continue };
@@ -245,7 +261,7 @@ fn bound_over_all_types() {
             seen[kind as usize] += 1;
         }
     }
-    assert!(seen.iter().all(|&count| count > 1_000), "{seen:?}");
+    assert!(seen.iter().all(|&count| count > 800), "{seen:?}");
 }
 
 /// Refusal 22 in every call, from both sides.
@@ -354,8 +370,7 @@ fn k1_in_version_2() {
     let mut buffer = [0; 27];
     assert_eq!(write(&mut buffer, &ship.raw()), Ok(27));
     assert_eq!(buffer[..], packed(&k1()));
-    let hex: String = buffer.iter().map(|byte| format!("{byte:02x}")).collect();
-    assert!(record_line(&second).ends_with(&format!(" as {hex}")));
+    assert!(record_line(&second).ends_with(&format!(" as {}", hex(&buffer))));
     assert!(record_line(&buffer).ends_with(" back"));
 }
 

@@ -1,4 +1,4 @@
-// Checks 7 to 11 and 18 on a ship, and those of the houses on a list with L alone.
+// Checks 7 to 11, 18 and 22 on a ship, and those of the houses on a list with L alone.
 ghost use mathlib.Core.Bool.{true};
 ghost use mathlib.Core.Path.{_≡_};
 ghost use Prim.Native.Nat.{_≤_};
@@ -85,7 +85,7 @@ pub fn of_houses(l: Span, houses: [House; 8], n: usize) -> Verdict
     refusal::after(nine, refusal::after(ten, order))
 }
 
-// Checks 7 to 11 and 18. The houses' own can be worked only once L is known to be in its range.
+// Checks 7 to 11, 18 and 22. The houses' own can be worked only once L is known to be in its range.
 pub fn of_ship(x: Ship) -> Verdict
     requires { ⌜ x .n ≤ 8 ⌝ }
     ensures { λ v. ⌜ paper v ≡ first (shipLines x) ⌝ }

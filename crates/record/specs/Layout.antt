@@ -151,14 +151,10 @@ unfoldable pub headIn : List ℕ → Head
 headIn s = headOf (unpack (headWidths (versionIn s)) (number (take 27 s)))
 
 -- ---- the ship: its head and its houses
--- the lowest version that holds a ship of a type
-unfoldable pub lowestFor : ℕ → ℕ
-lowestFor kind = pick (ltb (lastTypeIn 1) kind) 2 1
-
--- the head of a ship's record
-abbrev pub shipHead : Ship → Head
-shipHead x = record {
-  version = lowestFor (x .kind);
+-- the head of a ship's record in a version
+abbrev pub headFor : ℕ → Ship → Head
+headFor version x = record {
+  version = version;
   kind = x .kind;
   count = x .n;
   spare = 0;
@@ -171,6 +167,14 @@ shipHead x = record {
   displacement = x .displacement;
   immersion = x .immersion;
 }
+
+-- the lowest version that holds a ship of a type
+unfoldable pub lowestFor : ℕ → ℕ
+lowestFor kind = pick (ltb (lastTypeIn 1) kind) 2 1
+
+-- a ship's record is in the lowest version that holds it
+abbrev pub shipHead : Ship → Head
+shipHead x = headFor (lowestFor (x .kind)) x
 
 abbrev pub shipOf : Head → List House → Ship
 shipOf h hs = record {

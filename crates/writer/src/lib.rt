@@ -16,7 +16,7 @@ use ship::refusal;
 use ship::refusal::Refusal;
 use ship::refusal::Verdict;
 
-// The head of a ship's record.
+// The head of a ship's record, in the lowest version that holds it.
 fn head_of(x: Ship) -> Head
     ensures { λ r. ⌜ r ≡ shipHead x ⌝ }
 {
@@ -25,7 +25,7 @@ fn head_of(x: Ship) -> Head
     let moulded = x.moulded;
     let sheer = x.sheer;
     Head {
-        version: record::VERSION,
+        version: record::lowest_for(x.kind),
         kind: x.kind,
         count: x.n as u64,
         spare: 0,
@@ -43,7 +43,7 @@ fn head_of(x: Ship) -> Head
 // Writes the record of a ship that was accepted; what stands behind it stays.
 fn put_record(buf: &mut [u8], x: Ship)
     requires { ⌜ (x .n ≤ 8) × (recordLength (x .n) ≤ length (now buf)) ⌝ }
-    requires { ⌜ Fit headWidths (headFields (shipHead x)) ⌝ }
+    requires { ⌜ Fit (headWidths (shipHead x .version)) (headFields (shipHead x)) ⌝ }
     requires { ⌜ Low (housesOf x) ⌝ }
     ensures { λ _. ⌜ now (buf .exit) ≡ recordBytes x ++ drop (recordLength (x .n)) (now (buf .entry)) ⌝ }
 {
@@ -53,7 +53,7 @@ fn put_record(buf: &mut [u8], x: Ship)
     house_writer::put_houses(buf, houses, x.n);
 }
 
-// The verdict on writing a ship into `room` bytes: refusals 3, 4, 7 to 11, 18 and 17, in the table's order.
+// The verdict on writing a ship into `room` bytes: refusals 3, 4, 7 to 11, 18, 22 and 17, in the table's order.
 fn verdict(x: Ship, room: usize) -> Verdict
     ensures { λ v. ⌜ paper v ≡ writingOf room x ⌝ }
 {

@@ -22,7 +22,7 @@ const SEARCHES: usize = 8;
 const HEIGHT: u64 = 2_000;
 const LEAST_WISH: u64 = 50;
 
-/// Ships of 0 to 8 houses.
+/// Ships of every type with 0 to 8 houses, each in the lowest version that holds it.
 pub fn ships() -> Vec<Input> {
     let mut random = Random::new(1966);
     (0..SHIPS).map(|i| Input::new(random.any_ship(i % 9), LEAST_WISH)).collect()
@@ -33,7 +33,8 @@ pub fn early_hits() -> Vec<Input> {
     let mut random = Random::new(1988);
     found(SHIPS, || {
         let n = random.between(0, 7) as usize;
-        let raw = random.ship(n);
+        let kind = random.kind();
+        let raw = random.ship_of(kind, n);
         let ship = raw.check().ok()?;
         let wish = question::summer_with_poop(&ship, HEIGHT, random.between(1, 10)).ok()?;
         let input = Input::new(raw, wish as u64);

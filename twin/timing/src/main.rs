@@ -79,6 +79,7 @@ fn agree(input: &Input) -> bool {
     Now::marks(&input.record).s == summer.unwrap_or(0)
         && Now::shortest_poop(&input.record, input.height, input.wish).decimetres as i64
             == poop.unwrap_or(0)
+        && Now::read(&input.record).ship.kind == input.raw.kind
         && Now::read(&input.record).ship.length == input.raw.length
         && buffer[..written] == input.record
 }

@@ -24,7 +24,7 @@ put-record-spec =
     (λ c κs.
     let d = c .before in
     let s = d .before .before in
-    (length-take-le 27 (now (s .args .buf)) (omega arith), subst (λ (h : Head). Fit headWidths (headFields h)) (sym (d .head-of .ensures)) (s .pre .1 .0)))
+    (length-take-le 27 (now (s .args .buf)) (omega arith), subst (λ (h : Head). Fit (headWidths (h .version)) (headFields h)) (sym (d .head-of .ensures)) (s .pre .1 .0)))
     (λ c κs.
     let s = c .before .before .before .before .before .before .before .before in
     ((omega arith, omega arith), s .pre .1 .1))

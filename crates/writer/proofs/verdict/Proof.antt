@@ -17,11 +17,11 @@ verdict-spec =
     tie.close
     (tie.spec
     (λ c.
-    let h : 1 < c .before .before .args .x .kind = omega arith in
+    let h : 4 < c .before .before .args .x .kind = omega arith in
     simp lt-ltb)
     (λ c.
     let x = c .before .before .before .args .x in
-    let h : x .kind ≤ 1 = omega arith in
+    let h : x .kind ≤ 4 = omega arith in
     let k : 8 < x .n = omega arith in
     simp (le-ltb, lt-ltb))
     (λ c. search needs)

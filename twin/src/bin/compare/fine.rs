@@ -113,3 +113,31 @@ pub fn at_whole_mm(freeboard: i64) -> bool {
 fn reduction_shows(steps: &Steps) -> bool {
     steps.depth_reduction > 0 && steps.corrected > steps.bow
 }
+
+#[cfg(test)]
+mod tests {
+    use super::*;
+    use twin::record::Kind;
+
+    /// Ships of every type, and B-60 where the rounding of its line shows: with a line that is not whole
+    /// fifths of a um, one um above a whole mm.
+    #[test]
+    fn lines_show() {
+        let mut random = Random::new(60);
+        let mut seen = [0; 5];
+        let mut shows = 0;
+        for i in 0..4_000 {
+            let (raw, question) = ship(&mut random, i % 9);
+            let ship = raw.check().expect("a valid ship");
+            seen[ship.kind as usize] += 1;
+            let steps = marks::steps(&ship);
+            let [a, b] = [Kind::A, Kind::B].map(|kind| marks::tabular(kind, ship.length));
+            let fraction = (2 * b + 3 * a) % 5 > 0;
+            let at_one = steps.corrected > steps.bow && steps.corrected % 1000 == 1;
+            let reduced = ship.kind == Kind::B60 && question.is_none();
+            shows += u32::from(reduced && fraction && at_one);
+        }
+        assert!(seen.iter().all(|&n| n >= 100), "{seen:?}");
+        assert!(shows >= 100, "{shows}");
+    }
+}

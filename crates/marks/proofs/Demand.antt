@@ -8,9 +8,9 @@ use Rattle.ship.specs.Refusals.{Paper, first}
 use Rattle.ship.specs.Checks.{shipLines}
 use Rattle.ship.proofs.Lines.{AllPass, all-pass, all-pass-split, first-passed}
 use Rattle.ship.proofs.Accepted.{good}
-use Rattle.record.specs.Layout.{shipIn}
+use Rattle.record.specs.Layout.{headIn, shipIn}
 use Rattle.record.specs.Reading.{frameLines}
-use Rattle.record.proofs.Framed.{frame-passed}
+use Rattle.record.proofs.Framed.{frame-passed, type-most}
 use Rattle.mark.specs.declared.Answer.{Answer}
 use Rattle.mark.specs.declared.Answer.the-variants.{Given, Refused}
 use Rattle.mark.specs.Others.{Sheet, markLines, sixMarks, sheet, sheetAt}
@@ -25,12 +25,12 @@ unfolding sheetFor sheetAt sixMarks
 bounded x k (Given m) e = rw (given-marks (first (markLines (particularsOf x) (summerOf x))) (sixMarks (particularsOf x) (summerOf x)) m e .1) (summer-bounded x k)
 bounded x k (Refused r) e = tt
 
--- bytes whose lines 1 to 11 and 18 all pass are of a ship that the steps can take
+-- bytes whose lines 1 to 11, 18 and 22 all pass are of a ship that the steps can take
 pub sound : (s : List ℕ) → AllPass (frameLines s) → AllPass (shipLines (shipIn s)) → Sound (shipIn s)
 unfolding shipIn
 sound s a b =
     let f = frame-passed s a in
-    record { type = f .type; few = f .few; good = good (shipIn s) (ap (λ (t : Paper). t .number) (first-passed (shipLines (shipIn s)) b)) }
+    record { type = type-most (headIn s .version) (f .type); few = f .few; good = good (shipIn s) (ap (λ (t : Paper). t .number) (first-passed (shipLines (shipIn s)) b)) }
 
 -- for every byte string for which the marks call gives marks
 pub bounded-in : (s : List ℕ) (r : Answer) → sheet r ≡ sheetIn s → Bounded r (shipIn s)

@@ -3,3 +3,4 @@ pub mod Covered
 pub mod Demand
 pub mod Split
 pub mod OneToOne
+pub mod Types

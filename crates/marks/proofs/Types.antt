@@ -1,0 +1,42 @@
+-- 02 §5 of the call: the four type B kinds in one statement, and the marks of records whose ships differ in type alone, in the order of their lines.
+use Prim.Native.Nat.{ℕ, _≤_}
+use mathlib.Core.List.{List}
+use mathlib.Core.Path.{_≡_, ap, ap₂, _∙_}
+use Rattle.ship.specs.declared.Ship.{Ship}
+use Rattle.ship.specs.Kinds.{kindB}
+use Rattle.ship.specs.Refusals.{accepted, first}
+use Rattle.record.specs.Reading.{readingIn}
+use Rattle.mark.specs.declared.Marks.{Marks}
+use Rattle.mark.specs.declared.Answer.the-variants.{Given}
+use Rattle.mark.specs.Others.{Sheet, markLines, sixMarks, sheet, sheetAt}
+use Rattle.mark.proofs.OneToOne.{given-marks}
+use Rattle.basis.specs.Basis.{basisOf}
+use Rattle.basis.proofs.Laws.{inOrder}
+use Rattle.steps.specs.Steps.{summerBy, summerOf, particularsBy, particularsOf}
+use Rattle.steps.proofs.Types.{ofKind, four-summers, four-particulars, summers-in-order}
+use Rattle.marks.specs.Marks.{sheetFor, sheetIn}
+use Rattle.marks.proofs.Sheet.{sheet-read, sound-read}
+
+-- the marks of an ordinary type B ship, but from this line and with this floor, which is the tropical one too
+abbrev pub sheetBy : ℕ → ℕ → Ship → Sheet
+sheetBy line floor x = sheetAt (particularsBy floor (ofKind kindB x)) (summerBy line floor (ofKind kindB x))
+
+-- ONE STATEMENT for the four: all six marks, and 12 and 13; line and floor are all that varies with the kind
+pub four-kinds : (x : Ship) (kind : ℕ) → 1 ≤ kind
+    → sheetFor (ofKind kind x) ≡ sheetBy (basisOf kind (x .length .0) .line) (basisOf kind (x .length .0) .floor) x
+unfolding sheetFor
+four-kinds x kind b = ap₂ sheetAt (four-particulars x kind b) (four-summers x kind b)
+
+-- the S that a call gives is the steps'
+given-summer : (s : List ℕ) (x : Ship) → readingIn s ≡ record { verdict = accepted; ship = x } → (m : Marks) → sheet (Given m) ≡ sheetIn s → m .s ≡ summerOf x
+unfolding sheetFor sheetAt sixMarks
+given-summer s x e m g =
+    ap (λ (n : Marks). n .s) (given-marks (first (markLines (particularsOf x) (summerOf x))) (sixMarks (particularsOf x) (summerOf x)) m (g ∙ sheet-read s x e) .1)
+
+-- two records whose ships differ in type alone, the types in the order A, B-100, B-60, B, portable covers: where both get marks, S is in that order
+pub marks-in-order : (x : Ship) (i j : ℕ) → i ≤ j → j ≤ 4 → (s t : List ℕ)
+    → readingIn s ≡ record { verdict = accepted; ship = ofKind (inOrder i) x } → readingIn t ≡ record { verdict = accepted; ship = ofKind (inOrder j) x }
+    → (m n : Marks) → sheet (Given m) ≡ sheetIn s → sheet (Given n) ≡ sheetIn t → m .s ≤ n .s
+marks-in-order x i j h k s t p q m n a b =
+    rw (given-summer s (ofKind (inOrder i) x) p m a, given-summer t (ofKind (inOrder j) x) q n b)
+    (summers-in-order x (sound-read s (ofKind (inOrder i) x) p .good .length-most) i j h k)

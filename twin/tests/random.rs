@@ -1,11 +1,11 @@
-//! What is drawn of ships below L/15.
+//! What is drawn of ships below L/15, and of the five types.
 
 mod common;
 
 use common::ship;
-use twin::marks::{standard_height, steps};
+use twin::marks::{floor, marks, standard_height, steps};
 use twin::random::Random;
-use twin::record::{House, Ship};
+use twin::record::{House, Kind, Ship};
 
 /// The house that covers 0.2 L to 0.8 L, with `mm` more or less at each end.
 fn amidships(ship: &Ship, mm: i64) -> Option<&House> {
@@ -61,4 +61,50 @@ fn share_of_low_ships() {
     let deep = ships.iter().filter(|ship| steps(ship).depth > 0).count();
     assert!((1_000..3_000).contains(&reduced), "{reduced}");
     assert!(deep > 3_000, "{deep}");
+}
+
+/// Every type at the borders of its line, on both sides of Cb 0.68, and about both floors.
+#[test]
+fn types_at_their_borders() {
+    let mut random = Random::new(27);
+    let mut seen = [[0; 6]; 5];
+    let mut covers = [0; 6];
+    let mut reduced = [0; 2];
+    let mut floors = [[0; 4]; 5];
+    for i in 0..60_000 {
+        let ship = ship(&random.any_ship(i % 9));
+        let (l, kind) = (ship.length, ship.kind as usize);
+        let count = |counts: &mut [i32], holds: &[bool]| {
+            for (count, &holds) in counts.iter_mut().zip(holds) {
+                *count += i32::from(holds);
+            }
+        };
+        let sorts = [
+            l % 1000 == 0,
+            (108_001..109_000).contains(&l),
+            l % 1000 != 0,
+            ship.cb <= 6_800,
+            ship.cb > 6_800,
+            ship.cb > 10_000,
+        ];
+        count(&mut seen[kind], &sorts);
+        match ship.kind {
+            Kind::Covers => count(
+                &mut covers,
+                &[100_000, 107_999, 108_000, 109_000, 199_999, 200_000].map(|at| l == at),
+            ),
+            Kind::B60 | Kind::B100 => {
+                count(&mut reduced, &[l == 100_001, l > 200_000]);
+            }
+            _ => {}
+        }
+        let Ok(marks) = marks(&ship) else { continue };
+        let least = floor(ship.kind);
+        let near = |mark: i64| mark > least && mark <= least + 2;
+        let at = [marks.summer == least, near(marks.summer), marks.tropical == least];
+        count(&mut floors[kind], &[at[0], at[1], at[2] && !at[0], near(marks.tropical)]);
+    }
+    assert!(seen.as_flattened().iter().all(|&n| n >= 50), "{seen:?}");
+    assert!(covers.iter().chain(&reduced).all(|&n| n >= 50), "{covers:?} {reduced:?}");
+    assert!(floors.as_flattened().iter().all(|&n| n >= 20), "{floors:?}");
 }

@@ -16,11 +16,11 @@ use Rattle.ship.specs.Checks.{shipLines}
 use Rattle.ship.specs.Good.{Good}
 use Rattle.ship.proofs.Lines.{AllPass, all-pass, all-pass-split, first-passed}
 use Rattle.ship.proofs.Accepted.{good}
-use Rattle.record.specs.Layout.{recordLength, shipIn}
+use Rattle.record.specs.Layout.{recordLength, lowestFor, versionIn, shipIn}
 use Rattle.record.specs.Reading.{frameLines, readingIn}
 use Rattle.record.specs.Writing.{writeLines, writingOf, written}
 use Rattle.record.proofs.RoundTrip as RoundTrip
-use Rattle.record.proofs.Theorems.{read-what-was-written, write-what-was-read}
+use Rattle.record.proofs.Theorems.{read-what-was-written, write-what-was-read, written-reads-same}
 use Rattle.marks.specs.Marks.{sheetIn}
 use Rattle.question.specs.Question.{replyIn}
 use Rattle.flat.specs.declared.FlatShip.{FlatShip}
@@ -77,7 +77,7 @@ refused-zero s a e h =
     let n : 0 < p .number = omega (arith, ap (λ (r : ReadAnswer). r .verdict .number) e) in
     ap (λ (r : ReadAnswer). r .ship) e ∙ ap shipOf (rw (ne-eqb (p .number) 0 (λ z. omega arith)) refl) ∙ zero-flat
 
--- ---- what was read is written back
+-- ---- what was read is written back, or reads as the same
 -- a reading whose number is 0 is an accepted one
 read-whole : (s : List ℕ) → readingIn s .verdict .number ≡ 0 → readingIn s ≡ record { verdict = accepted; ship = readingIn s .ship }
 unfolding readingIn
@@ -85,22 +85,48 @@ read-whole s e =
     let v = first-passed (frameLines s ++ shipLines (shipIn s)) (all-pass (frameLines s ++ shipLines (shipIn s)) (omega arith) e) in
     λ i. record { verdict = v i; ship = readingIn s .ship }
 
--- the write is accepted, its answer is the record's length, and the buffer holds the record
-pub written-back : (s : List ℕ) → Bytes s → (a : ReadAnswer) → a ≡ fromReading (readingIn s) → a .verdict .number ≡ 0
-    → (buf : List ℕ) → length s ≤ length buf
-    → let x = shipFrom (a .ship) in let p = writingOf (length buf) x in
-    (fromVerdict p x ≡ record { verdict = accepted; bytes = length s }) × (written p x buf ≡ s ++ drop (length s) buf)
-unfolding fromReading fromVerdict pick
-written-back s b a e z buf h =
-    let n : readingIn s .verdict .number ≡ 0 = sym (ap (λ (r : ReadAnswer). r .verdict .number) e) ∙ z in
-    let x = readingIn s .ship in
-    let same : shipFrom (a .ship) ≡ x = ap (λ (r : ReadAnswer). shipFrom (r .ship)) e ∙ ship-back x in
-    let r = read-whole s n in
-    let w = write-what-was-read s x b r buf h in
-    let l = sym (RoundTrip.length-there s x r) in (
-      ap (λ (y : Ship). fromVerdict (writingOf (length buf) y) y) same ∙ ap (λ (p : Paper). fromVerdict p x) (w .0) ∙ (λ i. record { verdict = accepted; bytes = l i }),
-      ap (λ (y : Ship). written (writingOf (length buf) y) y buf) same ∙ w .1,
-    )
+-- by an answer that accepts
+module _ (s : List ℕ) (a : ReadAnswer) (e : a ≡ fromReading (readingIn s)) (z : a .verdict .number ≡ 0) where
+  -- its ship is the one that was read
+  same : shipFrom (a .ship) ≡ readingIn s .ship
+  unfolding fromReading
+  same = ap (λ (r : ReadAnswer). shipFrom (r .ship)) e ∙ ship-back (readingIn s .ship)
+
+  whole : readingIn s ≡ record { verdict = accepted; ship = readingIn s .ship }
+  unfolding fromReading
+  whole = read-whole s (sym (ap (λ (r : ReadAnswer). r .verdict .number) e) ∙ z)
+
+  -- the write is accepted, and its answer is the record's length
+  pub writes : (buf : List ℕ) → length s ≤ length buf
+      → let x = shipFrom (a .ship) in
+      fromVerdict (writingOf (length buf) x) x ≡ record { verdict = accepted; bytes = length s }
+  unfolding fromVerdict pick
+  writes buf h =
+      let x = readingIn s .ship in
+      let l = sym (RoundTrip.length-there s x whole) in
+      let w = written-reads-same s x whole buf h in
+      ap (λ (y : Ship). fromVerdict (writingOf (length buf) y) y) same ∙ ap (λ (p : Paper). fromVerdict p x) (w .0) ∙ (λ i. record { verdict = accepted; bytes = l i })
+
+  -- a record in the lowest version that holds its ship: the buffer then holds the record
+  pub written-back : Bytes s → versionIn s ≡ lowestFor (a .ship .kind) → (buf : List ℕ) → length s ≤ length buf
+      → let x = shipFrom (a .ship) in
+      written (writingOf (length buf) x) x buf ≡ s ++ drop (length s) buf
+  unfolding shipFrom
+  written-back b lowest buf h =
+      let w = write-what-was-read s (readingIn s .ship) b whole (lowest ∙ ap (λ (y : Ship). lowestFor (y .kind)) same) buf h in
+      ap (λ (y : Ship). written (writingOf (length buf) y) y buf) same ∙ w .1
+
+  -- a record in any version: the bytes that the buffer then holds have the same answer
+  pub written-same : (buf : List ℕ) → length s ≤ length buf
+      → let x = shipFrom (a .ship) in
+      fromReading (readingIn (take (length s) (written (writingOf (length buf) x) x buf))) ≡ a
+  written-same buf h =
+      let x = readingIn s .ship in
+      let l = RoundTrip.length-there s x whole in
+      let w = written-reads-same s x whole buf h in
+      ap (λ (y : Ship). fromReading (readingIn (take (length s) (written (writingOf (length buf) y) y buf)))) same
+      ∙ ap (λ (n : ℕ). fromReading (readingIn (take n (written (writingOf (length buf) x) x buf)))) l
+      ∙ ap fromReading (w .1 ∙ sym whole) ∙ sym e
 
 -- ---- one answer
 pub one-marks : (s : List ℕ) (a b : MarksAnswer) → a ≡ fromSheet (sheetIn s) → b ≡ fromSheet (sheetIn s) → a ≡ b

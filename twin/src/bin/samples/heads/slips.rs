@@ -67,7 +67,7 @@ enum Call {
     Marks(Vec<u8>),
     /// Height and wish.
     Question(Vec<u8>, u64, u64),
-    Write(Trial),
+    Write(Box<Trial>),
 }
 
 /// The cases of one call.
@@ -88,7 +88,7 @@ impl Heads {
     }
 
     pub fn write(&mut self, trial: &Trial, line: &str) {
-        self.add(Call::Write(trial.clone()), line);
+        self.add(Call::Write(Box::new(trial.clone())), line);
     }
 
     fn add(&mut self, call: Call, line: &str) {

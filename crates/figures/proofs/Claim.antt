@@ -3,6 +3,7 @@ use lib.Dec.{T}
 use Rattle.whole.specs.Pick as Pick
 use Rattle.whole.specs.Divide as Divide
 use Rattle.whole.specs.Row as Row
+use Rattle.tables.specs.Table27 as Table27
 use Rattle.tables.specs.Table28 as Table28
 use Rattle.tabular.specs.Tabular as Tabular
 use Rattle.percentages.specs.Table37 as Table37
@@ -26,7 +27,7 @@ use Rattle.sheer.specs.Sheer as Sheer
 use Rattle.bow.specs.Bow as Bow
 use Rattle.mark.specs.Summer as Summer
 use Rattle.mark.specs.Others as Others
-use Rattle.steps.specs.Basis as Basis
+use Rattle.basis.specs.Basis as Basis
 use Rattle.steps.specs.Steps as Steps
 use Rattle.marks.specs.Marks as Marks
 use Rattle.trial.specs.Poop as Poop
@@ -35,11 +36,11 @@ use Rattle.figures.specs.Figures.{k1, k2, bowHeight, marksRow, askedRow,
 
 -- what a figure computes through
 unfoldable pub Tools : Type 0
-unfolding Pick.pick Divide.ceilDiv Row.gain Row.height Table28.table28A Table28.table28B Tabular.tabular Table37.ordinaryRow Refusals.first
+unfolding Pick.pick Divide.ceilDiv Row.gain Row.height Table27.table27 Table28.table28A Table28.table28B Tabular.tabular Table37.ordinaryRow Refusals.first
 Tools = Unit {0}
 
 unfoldable pub Reader : Type 0
-unfolding Fields.pack Fields.piece Fields.unpack Fields.number Layout.houseIn Layout.spareIn Layout.headIn Layout.placesIn Layout.shipIn Reading.sparesIn Checks.firstFrom Checks.fieldOut Checks.breaks Checks.breachAt Checks.firstBreach
+unfolding Fields.pack Fields.piece Fields.unpack Fields.number Layout.kindBits Layout.spareBits Layout.lastTypeIn Layout.houseIn Layout.spareIn Layout.headIn Layout.placesIn Layout.shipIn Reading.sparesIn Checks.firstFrom Checks.fieldOut Checks.breaks Checks.breachAt Checks.firstBreach
 Reader = Unit {0}
 
 unfoldable pub Houses : Type 0
@@ -51,7 +52,7 @@ unfolding Short29.exactShortB Short29.shortB Fullness30.exactFullness Fullness30
 Corrections = Unit {0}
 
 unfoldable pub Marking : Type 0
-unfolding Summer.exactSummer Summer.summerMark Others.tropical Others.winter Others.atlantic Others.allowance Others.sixMarks Others.sheetAt Basis.basisOf Steps.coveredS Steps.effectiveE Steps.forecastleHouse Steps.amidshipsRatio Steps.coverReach Steps.addedTo Steps.takenFrom Steps.bowOf Steps.summerOf Steps.particularsOf Marks.sheetIn
+unfolding Summer.exactSummer Summer.summerMark Others.tropical Others.winter Others.atlantic Others.allowance Others.sixMarks Others.sheetAt Basis.exactReduced Basis.basisOf Steps.coveredS Steps.effectiveE Steps.forecastleHouse Steps.amidshipsRatio Steps.coverReach Steps.addedTo Steps.takenFrom Steps.bowOf Steps.summerOf Steps.particularsOf Marks.sheetIn
 Marking = Unit {0}
 
 unfoldable pub Asking : Type 0

@@ -1,14 +1,18 @@
 -- 02: the figures that its requests and their readings state, in the same form; for §8, which states none, figures worked by hand. A row has the request's number.
 use Prim.Native.Nat.{ℕ, _+_, _*_}
 use mathlib.Core.List.{List, [], _∷_, _++_}
+use lib.ListN.{drop}
 use Rattle.whole.specs.Frac.{ceil}
 use Rattle.units.specs.Datum.{lift}
 use Rattle.ship.specs.declared.House.{House}
+use Rattle.ship.specs.Kinds.{kindA, kindB, kindB60, kindB100, kindCovers}
 use Rattle.ship.specs.Refusals.{Paper, first}
 use Rattle.ship.specs.Checks.{houseLines}
-use Rattle.record.specs.Layout.{shipIn}
+use Rattle.record.specs.Layout.{shipIn, recordBytes}
 use Rattle.record.specs.Reading.{readingIn}
 use Rattle.record.specs.Writing.{writingOf}
+use Rattle.tabular.specs.Tabular.{coversAdd}
+use Rattle.basis.specs.Basis.{basisOf}
 use Rattle.houses.specs.Height.{heightRatio}
 use Rattle.houses.specs.Effective.{effectiveLength}
 use Rattle.houses.specs.Amidships.{amidshipsOf}
@@ -18,11 +22,11 @@ use Rattle.steps.specs.Steps.{summerOf}
 use Rattle.marks.specs.Marks.{sheetIn}
 use Rattle.trial.specs.Poop.{withPoop}
 use Rattle.question.specs.Question.{Reply, replyIn}
-use Rattle.figures.specs.Figures.{Row, row, one, particulars, forecastle, refusalOf, marksRow, askedRow, house}
+use Rattle.figures.specs.Figures.{Row, row, one, k1, particulars, forecastle, refusalOf, marksRow, askedRow, house}
 
 -- ---- §1: number, place and overlap, of houses on a ship of 90 m, from aft to fore each
-abbrev pub refusalRow : Paper → List ℕ → Row
-refusalRow p stated = row 1 (refusalOf p) stated
+abbrev pub refusalRow : ℕ → Paper → List ℕ → Row
+refusalRow k p stated = row k (refusalOf p) stated
 
 abbrev pub listed : List House → Paper
 listed hs = first (houseLines 90000 hs)
@@ -38,14 +42,46 @@ r1 = 0x14 ∷ 0x80 ∷ particulars ++ forecastle ++ forecastle
 abbrev pub depthTakes : ℕ → ℕ → List House → ℕ
 depthTakes l d hs = depthReduction l d (heightRatio l (amidshipsOf l hs))
 
+-- what the records of L 120 m have in common: from Cwf on, with no certified displacement; and their forecastle
+abbrev pub hullForms : List ℕ
+hullForms =
+    0x1f ∷ 0x40 ∷ 0x13 ∷ 0x88 ∷ 0x22 ∷ 0xb0 ∷ 0x23 ∷ 0x01 ∷ 0x18 ∷ 0x11 ∷ 0x58 ∷ 0x9c ∷ 0x40 ∷ 0x00 ∷ 0x00 ∷ 0x00 ∷ 0x00 ∷ []
+
+abbrev pub forward : List ℕ
+forward = 0x83 ∷ 0x5b ∷ 0x60 ∷ 0x1d ∷ 0x4c ∷ 0x04 ∷ 0x7e ∷ 0x00 ∷ []
+
 -- sample/low.record: L 120 m, D = M = 7000 and a forecastle; asked for a poop of 2300 mm
 unfoldable pub r4 : List ℕ
-r4 =
-    0x14 ∷ 0x40 ∷ 0x1d ∷ 0x4c ∷ 0x01 ∷ 0xb5 ∷ 0x81 ∷ 0xb5 ∷ 0x86 ∷ 0xa4 ∷ 0x1f ∷ 0x40 ∷ 0x13 ∷ 0x88 ∷ 0x22 ∷ 0xb0 ∷ 0x23 ∷ 0x01 ∷ 0x18 ∷ 0x11
-    ∷ 0x58 ∷ 0x9c ∷ 0x40 ∷ 0x00 ∷ 0x00 ∷ 0x00 ∷ 0x00 ∷ 0x83 ∷ 0x5b ∷ 0x60 ∷ 0x1d ∷ 0x4c ∷ 0x04 ∷ 0x7e ∷ 0x00 ∷ []
+r4 = 0x14 ∷ 0x40 ∷ 0x1d ∷ 0x4c ∷ 0x01 ∷ 0xb5 ∷ 0x81 ∷ 0xb5 ∷ 0x86 ∷ 0xa4 ∷ hullForms ++ forward
 
 abbrev pub asked4 : ℕ → Reply
 asked4 wish = replyIn r4 2300 wish
+
+-- ---- §5: L 120 m, D = M = 8000, by the two bytes that have version, type and n: A and B in version 1, the others in version 2. sample/b60.record is the third
+unfoldable pub long5 : ℕ → ℕ → List ℕ
+long5 a b = a ∷ b ∷ 0x1d ∷ 0x4c ∷ 0x01 ∷ 0xf4 ∷ 0x01 ∷ 0xf4 ∷ 0x06 ∷ 0xa4 ∷ hullForms
+
+abbrev pub summer5 : ℕ → ℕ → ℕ
+summer5 a b = summerOf (shipIn (long5 a b ++ forward))
+
+-- with portable covers and Cb 0.8
+unfoldable pub full5 : List ℕ
+full5 = 0x28 ∷ 0x20 ∷ 0x1d ∷ 0x4c ∷ 0x01 ∷ 0xf4 ∷ 0x01 ∷ 0xf4 ∷ 0x07 ∷ 0xd0 ∷ hullForms ++ forward
+
+-- the line by type at 120 m
+abbrev pub line5 : ℕ → ℕ
+line5 kind = basisOf kind 120000 .line
+
+-- k1's particulars with another L, of five hexadecimal digits in the first three bytes
+abbrev pub other5 : ℕ → ℕ → ℕ → ℕ → List ℕ
+other5 opening a b c = opening ∷ 0x00 ∷ a ∷ b ∷ c ∷ drop 3 particulars
+
+-- k2 with portable covers, and k1 in version 2
+unfoldable pub covered5 : List ℕ
+covered5 = 0x28 ∷ 0x20 ∷ particulars ++ forecastle
+
+abbrev pub second5 : List ℕ
+second5 = 0x22 ∷ 0x00 ∷ particulars
 
 -- ---- §8: the borders of its cancelling. The mean of a ship of 90 m, by its after sum in mm: 50 and 75 per cent of standard are 1334 and 2001 mm. The forward
 -- sum is 800 mm above standard, an excess of 100 mm
@@ -65,17 +101,17 @@ unrounded8 = ceil (exactAddition (exactDeficiency (7 * lift) (7 * lift) 90001) 9
 -- ---- the table. The questions stand last: each search goes over more than 900 lengths
 unfoldable pub requests : List Row
 requests =
-    refusalRow (two 0 20000 0 5000) (11 ∷ 1 ∷ 5000 ∷ [])
-    ∷ refusalRow (two 0 20001 20000 30000) (11 ∷ 1 ∷ 1 ∷ [])
-    ∷ refusalRow (two 0 20000 6000 8000) (11 ∷ 1 ∷ 2000 ∷ [])
-    ∷ refusalRow (two 20000 25000 19999 30000) (18 ∷ 1 ∷ 0 ∷ [])
-    ∷ refusalRow (two 20000 25000 0 10000) (18 ∷ 1 ∷ 0 ∷ [])
-    ∷ refusalRow (two 10000 20000 9999 15000) (18 ∷ 1 ∷ 0 ∷ [])
-    ∷ refusalRow (two 0 20000 20000 30000) (0 ∷ 0 ∷ 0 ∷ [])
-    ∷ refusalRow (listed (house 0 20000 2000 ∷ house 10000 30000 2000 ∷ house 5000 8000 2000 ∷ [])) (11 ∷ 1 ∷ 10000 ∷ [])
-    ∷ refusalRow (listed (house 20000 30000 2000 ∷ house 10000 15000 2000 ∷ house 14000 18000 2000 ∷ [])) (18 ∷ 1 ∷ 0 ∷ [])
-    ∷ refusalRow (readingIn r1 .verdict) (11 ∷ 1 ∷ 10000 ∷ [])
-    ∷ refusalRow (writingOf 91 (shipIn r1)) (11 ∷ 1 ∷ 10000 ∷ [])
+    refusalRow 1 (two 0 20000 0 5000) (11 ∷ 1 ∷ 5000 ∷ [])
+    ∷ refusalRow 1 (two 0 20001 20000 30000) (11 ∷ 1 ∷ 1 ∷ [])
+    ∷ refusalRow 1 (two 0 20000 6000 8000) (11 ∷ 1 ∷ 2000 ∷ [])
+    ∷ refusalRow 1 (two 20000 25000 19999 30000) (18 ∷ 1 ∷ 0 ∷ [])
+    ∷ refusalRow 1 (two 20000 25000 0 10000) (18 ∷ 1 ∷ 0 ∷ [])
+    ∷ refusalRow 1 (two 10000 20000 9999 15000) (18 ∷ 1 ∷ 0 ∷ [])
+    ∷ refusalRow 1 (two 0 20000 20000 30000) (0 ∷ 0 ∷ 0 ∷ [])
+    ∷ refusalRow 1 (listed (house 0 20000 2000 ∷ house 10000 30000 2000 ∷ house 5000 8000 2000 ∷ [])) (11 ∷ 1 ∷ 10000 ∷ [])
+    ∷ refusalRow 1 (listed (house 20000 30000 2000 ∷ house 10000 15000 2000 ∷ house 14000 18000 2000 ∷ [])) (18 ∷ 1 ∷ 0 ∷ [])
+    ∷ refusalRow 1 (readingIn r1 .verdict) (11 ∷ 1 ∷ 10000 ∷ [])
+    ∷ refusalRow 1 (writingOf 91 (shipIn r1)) (11 ∷ 1 ∷ 10000 ∷ [])
     ∷ marksRow 1 (sheetIn r1) (11 ∷ 1 ∷ 10000 ∷ 0 ∷ 0 ∷ 0 ∷ 0 ∷ 0 ∷ 0 ∷ [])
     ∷ askedRow 1 (replyIn r1 1950 1000) (11 ∷ 1 ∷ 10000 ∷ 0 ∷ [])
     ∷ one 2 (effectiveLength 100000 (house 0 10001 1000 ∷ house 20000 30002 1000 ∷ house 95000 100000 1000 ∷ [])) 12196585
@@ -87,6 +123,36 @@ requests =
     ∷ one 4 (depthTakes 120000 7999 (house 24000 96000 2250 ∷ [])) 250
     ∷ one 4 (summerOf (withPoop 2300 959 (shipIn r4))) 785
     ∷ one 4 (summerOf (withPoop 2300 960 (shipIn r4))) 534
+    ∷ one 5 (coversAdd 24000) 50000
+    ∷ one 5 (coversAdd 108000) 50000
+    ∷ one 5 (coversAdd 108500) 51000
+    ∷ one 5 (coversAdd 120000) 84000
+    ∷ one 5 (coversAdd 199500) 357500
+    ∷ one 5 (coversAdd 200000) 358000
+    ∷ one 5 (line5 kindA) 1459000
+    ∷ one 5 (line5 kindB) 1690000
+    ∷ one 5 (line5 kindB60) 1551400
+    ∷ one 5 (line5 kindB100) 1459000
+    ∷ one 5 (line5 kindCovers) 1774000
+    ∷ one 5 (summer5 0x10 0x40) 1398
+    ∷ one 5 (summer5 0x14 0x40) 1629
+    ∷ one 5 (summer5 0x24 0x20) 1490
+    ∷ one 5 (summer5 0x26 0x20) 1398
+    ∷ one 5 (summer5 0x28 0x20) 1713
+    ∷ one 5 (summerOf (shipIn full5)) 1869
+    ∷ marksRow 5 (sheetIn covered5) (0 ∷ 0 ∷ 0 ∷ 1074 ∷ 972 ∷ 1177 ∷ 1227 ∷ 972 ∷ 870 ∷ [])
+    ∷ refusalRow 5 (readingIn (other5 0x24 0x18 0x6a 0x01) .verdict) (22 ∷ 0 ∷ 0 ∷ [])
+    ∷ refusalRow 5 (readingIn (other5 0x24 0x18 0x6a 0x11) .verdict) (0 ∷ 0 ∷ 0 ∷ [])
+    ∷ refusalRow 5 (readingIn (other5 0x28 0x30 0xd4 0x01) .verdict) (0 ∷ 0 ∷ 0 ∷ [])
+    ∷ refusalRow 5 (readingIn (other5 0x28 0x30 0xd4 0x11) .verdict) (22 ∷ 0 ∷ 0 ∷ [])
+    ∷ refusalRow 5 (writingOf 91 (shipIn (other5 0x28 0x30 0xd4 0x11))) (22 ∷ 0 ∷ 0 ∷ [])
+    ∷ refusalRow 5 (readingIn (other5 0x18 0x18 0x6a 0x11) .verdict) (3 ∷ 0 ∷ 0 ∷ [])
+    ∷ refusalRow 5 (readingIn (other5 0x2a 0x18 0x6a 0x11) .verdict) (3 ∷ 0 ∷ 0 ∷ [])
+    ∷ refusalRow 5 (readingIn (other5 0x04 0x18 0x6a 0x11) .verdict) (2 ∷ 0 ∷ 0 ∷ [])
+    ∷ refusalRow 5 (readingIn (other5 0x34 0x18 0x6a 0x11) .verdict) (2 ∷ 0 ∷ 0 ∷ [])
+    ∷ refusalRow 5 (readingIn second5 .verdict) (0 ∷ 0 ∷ 0 ∷ [])
+    ∷ row 5 (recordBytes (shipIn second5)) k1
+    ∷ row 5 (recordBytes (shipIn covered5)) covered5
     ∷ one 8 (lacks8 1333) 83438
     ∷ one 8 (lacks8 1334) 83375
     ∷ one 8 (lacks8 1335) 83238

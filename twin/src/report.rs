@@ -121,7 +121,7 @@ impl Trial {
 
     /// One line on the write: `written` or the refusal, then the whole buffer in hex.
     pub fn line(&self) -> String {
-        self.line_by(|buffer, ship| record::write(buffer, ship))
+        self.line_by(record::write)
     }
 
     /// The same of another writer.

@@ -1,5 +1,7 @@
-// Reads each record that an argument names, prints its ship or its refusal, and writes an accepted ship back.
+// Reads each record that an argument names, prints its ship or its refusal, and writes an accepted ship back: to the same bytes, or to those it then prints.
 // What must come is in `stdout`, made by `samples records` of twin/, which shares no code with the crates.
+use record::HEAD_BYTES;
+use record::HOUSE_BYTES;
 use ship::Ship;
 use ship::refusal::Verdict;
 
@@ -21,6 +23,15 @@ fn is_copy(out: &[u8; 128], s: &[u8]) -> bool {
     true
 }
 
+// The record of a ship with `n` houses, which stands first in `out`.
+fn record(out: &[u8; 128], n: usize) {
+    let t = &out[..];
+    if n <= 8 {
+        let e = HEAD_BYTES + HOUSE_BYTES * n;
+        show::hex(&t[0..e]);
+    }
+}
+
 fn back(x: Ship, s: &[u8]) {
     let mut out = [0xA5u8; 128];
     let v = writer::write(&mut out, x);
@@ -29,7 +40,8 @@ fn back(x: Ship, s: &[u8]) {
             if is_copy(&out, s) {
                 show::text(b" back");
             } else {
-                show::text(b" otherwise");
+                show::text(b" as ");
+                record(&out, x.n);
             }
         }
         Verdict::Refused(r) => {

@@ -3,7 +3,6 @@
 // What must come is in `stdout`, made by `samples writes` of twin/, which shares no code with the crates.
 ghost use Prim.Native.Nat.{_<_};
 ghost use lib.ListN.{length};
-use libc::STDOUT_FILENO;
 use ship::House;
 use ship::Ship;
 use ship::refusal::Verdict;
@@ -68,18 +67,6 @@ fn vessel(buf: &[u8; 448]) -> Ship {
     }
 }
 
-fn wide(x: u8) -> u64 {
-    x as u64
-}
-
-fn hex(s: &[u8]) {
-    let mut k = 0;
-    while k < s.len() {
-        io::print_hex(STDOUT_FILENO, wide(s[k]), 2);
-        k += 1;
-    }
-}
-
 fn put(x: Ship, out: &mut [u8]) {
     let v = writer::write(out, x);
     match v {
@@ -88,7 +75,7 @@ fn put(x: Ship, out: &mut [u8]) {
     }
     if 0 < out.len() {
         show::text(b" ");
-        hex(out);
+        show::hex(out);
     }
     show::text(b"\n");
 }

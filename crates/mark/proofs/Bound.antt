@@ -22,6 +22,10 @@ pub mark-quotient : (floor a t b : ℕ) → max floor (ceilDiv (max (a - t) b) 1
 unfolding summerMark
 mark-quotient floor a t b = floor-out floor (max (a - t) b) ∙ ceil-of (max (1000 * floor) (max (a - t) b)) 1000 (omega arith) (in-mm floor a t b)
 
+-- no mark is below its floor
+pub summer-least : (floor a t b : ℕ) → floor ≤ summerMark floor a t b
+summer-least floor a t b = rw (← mark-quotient floor a t b) (omega arith)
+
 -- a higher floor, more added, or less taken, never lowers the mark
 pub summer-rises : (f g a t c u b : ℕ) → f ≤ g → a ≤ c → u ≤ t → summerMark f a t b ≤ summerMark g c u b
 summer-rises f g a t c u b k p q =

@@ -4,11 +4,13 @@ use mathlib.Core.Bool.{Bool, true, false, _&&_}
 use mathlib.Core.List.{List, [], _∷_, _++_}
 use mathlib.Core.Path.{_≡_, refl, sym, ap, subst}
 use lib.Dec.{eqb, leb}
-use borrow.Author.Tests.{eqb-false}
+use borrow.Author.Tests.{eqb-false, lt-leb}
+use native.Mathlib.Nat.{lt-of-lt-of-le}
 use native.Mathlib.Omega.{arith}
 use Rattle.whole.specs.Pick.{pick}
 use Rattle.ship.specs.declared.House.{House}
 use Rattle.ship.specs.declared.Ship.{Ship}
+use Rattle.ship.specs.Kinds.{kindCovers}
 use Rattle.ship.specs.Vessel.{housesOf}
 use Rattle.ship.specs.Refusals.{Paper, Line, accepted, first}
 use Rattle.ship.specs.Checks.{fieldLines, houseLines, shipLines}
@@ -16,7 +18,9 @@ use Rattle.ship.proofs.Lines.{first-has, AllPass, all-pass-split, first-skip}
 use Rattle.record.specs.Layout.{shipIn}
 use Rattle.record.specs.Reading.{frameLines, readingIn}
 use Rattle.record.proofs.Framed.{passes-all, ship-is}
-use Rattle.steps.specs.Steps.{summerOf, particularsOf}
+use Rattle.basis.specs.Basis.{basisOf}
+use Rattle.steps.specs.Steps.{basis, summerOf, particularsOf}
+use Rattle.steps.proofs.Types.{floor-least}
 use Rattle.mark.specs.Others.{markLines}
 use Rattle.trial.specs.Poop.{poopHouse, withFirst, withPoop, within, marksWithin, fitsAt}
 use Rattle.question.specs.Question.{Reply, refusing, noLength, Shortest, fitting, none, askLines, replyOf, shortestFor, replyIn}
@@ -45,6 +49,22 @@ module _ (fits : ℕ → Bool) (L : ℕ) where
   beside : (r : Reply) → Shortest fits L r → ¬ (r .verdict .number ≡ 0) → r .decimetres ≡ 0
   beside r (fitting k m e f) n = absurd (n refl)
   beside r (none f) n = refl
+
+-- ---- a length fits only if its mark, which is at least the floor, is within the wish
+high : (b : Bool) (S wish : ℕ) → wish < S → (b && leb S wish) ≡ false
+high true S wish h = lt-leb S wish h
+high false S wish h = refl
+
+unfit : (x : Ship) (height wish k : ℕ) → wish < basis x .floor → fitsAt x height wish k ≡ false
+unfolding fitsAt marksWithin within withPoop withFirst pick
+unfit x height wish k h =
+    let y = withPoop height k x in
+    high (eqb (first (houseLines (y .length .0) (housesOf y) ++ markLines (particularsOf y) (summerOf y)) .number) 0) (summerOf y) wish
+    (lt-of-lt-of-le (same-floor (eqb k 0) h) (floor-least y))
+  where
+    same-floor : (b : Bool) → wish < basis x .floor → wish < basis (pick b x (withFirst (poopHouse height k) x)) .floor
+    same-floor true h = h
+    same-floor false h = h
 
 module _ (s : List ℕ) (height wish : ℕ) where
   abbrev x : Ship
@@ -75,6 +95,14 @@ module _ (s : List ℕ) (height wish : ℕ) where
   sixteen-given e f =
       rw e (one-shortest (fitsAt x height wish) (x .length .0) (shortestFor x height wish) noLength (is-shortest x height wish) (none f))
 
+  -- no mark is below the floor of the ship's type, so that a smaller wish has no length: 150 mm with portable covers
+  pub below-floor : first lines ≡ accepted → wish < basis x .floor → replyIn s height wish ≡ noLength
+  below-floor e h = sixteen-given e (λ j i. unfit x height wish j h)
+
+  pub below-covers : first lines ≡ accepted → x .kind ≡ kindCovers → wish < 150 → replyIn s height wish ≡ noLength
+  unfolding basisOf
+  below-covers e k h = below-floor e (subst (λ (kind : ℕ). wish < basisOf kind (x .length .0) .floor) (sym k) h)
+
   -- these facts leave one answer
   pub one-length : first lines ≡ accepted → (r : Reply) → Shortest (fitsAt x height wish) (x .length .0) r → r ≡ replyIn s height wish
   unfolding replyIn pick
@@ -90,7 +118,7 @@ module _ (s : List ℕ) (height wish : ℕ) where
       go true n = beside (fitsAt x height wish) (x .length .0) (shortestFor x height wish) (is-shortest x height wish) n
       go false n = refl
 
--- ---- a k fits by 9 to 13 and 18: 7 and 8 pass on the ship with the poop as on the ship without
+-- ---- a k fits by 9 to 13 and 18: 7, 22 and 8 pass on the ship with the poop as on the ship without
 fields-either : (x : Ship) (h : House) (b : Bool) → AllPass (fieldLines x) → AllPass (fieldLines (pick b x (withFirst h x)))
 unfolding withFirst pick
 fields-either x h true p = p

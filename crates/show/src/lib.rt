@@ -18,6 +18,19 @@ pub fn number(n: u64) {
     io::print_decimal(STDOUT_FILENO, n);
 }
 
+fn wide(x: u8) -> u64 {
+    x as u64
+}
+
+// Bytes, two hexadecimal digits each.
+pub fn hex(s: &[u8]) {
+    let mut k = 0;
+    while k < s.len() {
+        io::print_hex(STDOUT_FILENO, wide(s[k]), 2);
+        k += 1;
+    }
+}
+
 // A space, and a number.
 pub fn next(n: u64) {
     text(b" ");

@@ -17,11 +17,11 @@ use Rattle.deduction.specs.Deduction37.{lacksForecastle}
 use Rattle.deduction.proofs.Deduction37.{deducted-falls, deducted-same}
 use Rattle.sheer.specs.Sheer as Sheer
 use Rattle.mark.specs.Summer.{summerMark}
-use Rattle.mark.proofs.Bound.{summer-rises}
+use Rattle.mark.proofs.Bound.{summer-least, summer-rises}
 use Rattle.tabular.specs.Tabular.{tableA}
 use Rattle.basis.specs.Basis.{basisOf}
 use Rattle.basis.proofs.Laws.{inOrder, five-rise, lines-in-order, b100-is-a}
-use Rattle.steps.specs.Steps.{coveredS, effectiveE, forecastleHouse, amidshipsRatio, coverReach, addedTo, takenFrom, bowOf, summerBy, summerOf, particularsBy, particularsOf}
+use Rattle.steps.specs.Steps.{basis, coveredS, effectiveE, forecastleHouse, amidshipsRatio, coverReach, addedTo, takenFrom, bowOf, summerBy, summerOf, particularsBy, particularsOf}
 
 -- a ship that differs in type alone
 abbrev pub ofKind : ℕ → Ship → Ship
@@ -49,6 +49,11 @@ module _ (x : Ship) (k : ℕ) (b : 1 ≤ k) where
   pub four-particulars : particularsOf (ofKind k x) ≡ particularsBy (basisOf k (x .length .0) .floor) (ofKind kindB x)
   unfolding particularsOf
   four-particulars = refl
+
+-- ---- no summer mark is below the type's floor
+pub floor-least : (x : Ship) → basis x .floor ≤ summerOf x
+unfolding summerOf
+floor-least x = summer-least (basis x .floor) (addedTo (basis x .line) x) (takenFrom ordinaryRow x) (bowOf x)
 
 -- ---- the order of the marks: A, B-100, B-60, B, B with portable covers
 module _ (x : Ship) (j k : ℕ) (lines : basisOf j (x .length .0) .line ≤ basisOf k (x .length .0) .line) (b : isTypeB j ≡ true → isTypeB k ≡ true) where

@@ -1,8 +1,8 @@
 use Prim.Native.Nat.{_-_}
 use lib.ListN.{length}
 use borrow.Author.Needs.{needs}
-use Rattle.known_writes.proofs.hex.Statement.{statement}
-use Rattle.known_writes.proofs.hex.Tie as tie
+use Rattle.show.proofs.hex.Statement.{statement}
+use Rattle.show.proofs.hex.Tie as tie
 
 abbrev Inv-loop : tie.InvT-loop
 Inv-loop s k₀ k = Unit {0}

@@ -9,6 +9,15 @@
 
 #include "loadline.h"
 
+/* The types of loadline_kind, as an office writes them. */
+static const char *const types[] = {
+    [LOADLINE_TYPE_A] = "A",
+    [LOADLINE_TYPE_B] = "B",
+    [LOADLINE_TYPE_B_60] = "B-60",
+    [LOADLINE_TYPE_B_100] = "B-100",
+    [LOADLINE_TYPE_B_PORTABLE_COVERS] = "B with portable covers",
+};
+
 /* Reads up to `room` bytes of a file; false, with errno set, if it cannot be read. */
 static bool load(const char *path, uint8_t *bytes, size_t room, size_t *length)
 {
@@ -60,7 +69,7 @@ int main(int argc, char **argv)
         return EXIT_SUCCESS;    /* a refusal is an answer */
     }
     loadline_ship ship = read.ship;
-    printf("L %" PRIu64 " type %c houses %" PRIu64, ship.length, "AB"[ship.kind], ship.n);
+    printf("L %" PRIu64 " type %s houses %" PRIu64, ship.length, types[ship.kind], ship.n);
     for (size_t i = 0; i < ship.n; i++)
         printf(" %" PRId64 "..%" PRId64, ship.houses[i].aft, ship.houses[i].fore);
     printf("\n");

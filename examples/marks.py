@@ -6,6 +6,7 @@ from pathlib import Path
 
 LONGEST = 91  # bytes of a record
 OVERLAP = 11  # the refusal that has one, in mm
+TYPES = ("A", "B", "B-60", "B-100", "B with portable covers")  # by their number in the record
 
 
 class House(Structure):
@@ -69,7 +70,7 @@ def show(record):
         return
     ship = read.ship
     houses = "".join(f" {house.aft}..{house.fore}" for house in ship.houses[: ship.n])
-    print(f"L {ship.length} type {'AB'[ship.kind]} houses {ship.n}{houses}")
+    print(f"L {ship.length} type {TYPES[ship.kind]} houses {ship.n}{houses}")
 
     poop = library.loadline_shortest_poop(record, len(record), 1950, 1000)
     print("poop of 1950 mm for S 1000:", poop if poop.refusal else f"{poop.decimetres} dm")

@@ -64,7 +64,7 @@ fn show(record: &[u8]) -> Result<(), loadline::Refusal> {
         Err(r) => println!("{r}"),
     }
     let ship = loadline::read(record)?;
-    print!("L {} type {} houses {}", ship.length, ["A", "B"][ship.kind as usize], ship.n);
+    print!("L {} type {} houses {}", ship.length, TYPES[ship.kind as usize], ship.n);
     for house in &ship.houses[..ship.n as usize] {
         print!(" {}..{}", house.aft, house.fore);
     }
@@ -80,6 +80,9 @@ fn show(record: &[u8]) -> Result<(), loadline::Refusal> {
     }
     Ok(())
 }
+
+/// The types by their number in the record, as an office writes them.
+const TYPES: [&str; 5] = ["A", "B", "B-60", "B-100", "B with portable covers"];
 
 fn main() -> ExitCode {
     let Some(path) = env::args_os().nth(1) else {

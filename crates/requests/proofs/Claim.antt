@@ -6,8 +6,8 @@ use Rattle.record.specs.Reading.{readingIn}
 use Rattle.record.specs.Writing.{writingOf}
 use Rattle.figures.specs.Figures.{k1, marksRow, askedRow, house, agree, allAgree}
 use Rattle.figures.proofs.Claim.{Tools, Reader, Houses, Corrections, Marking, Asking}
-use Rattle.requests.specs.Requests.{r1, r4, long5, full5, covered5, requests}
+use Rattle.requests.specs.Requests.{r1, r4, long5, full5, short5, covered5, requests}
 
 pub claim-02 : T (allAgree requests)
-unfolding bytes lowestFor headBytes houseBytes recordBytes readingIn writingOf marksRow askedRow house k1 r1 r4 long5 full5 covered5 requests agree allAgree Tools Reader Houses Corrections Marking Asking
+unfolding bytes lowestFor headBytes houseBytes recordBytes readingIn writingOf marksRow askedRow house k1 r1 r4 long5 full5 short5 covered5 requests agree allAgree Tools Reader Houses Corrections Marking Asking
 claim-02 = tt

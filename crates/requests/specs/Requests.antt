@@ -68,6 +68,12 @@ summer5 a b = summerOf (shipIn (long5 a b ++ forward))
 unfoldable pub full5 : List ℕ
 full5 = 0x28 ∷ 0x20 ∷ 0x1d ∷ 0x4c ∷ 0x01 ∷ 0xf4 ∷ 0x01 ∷ 0xf4 ∷ 0x07 ∷ 0xd0 ∷ hullForms ++ forward
 
+-- L 110 m, D = M = 8000, a poop of 20 m and a forecastle of 6 m, which is under 0.07 L: 37 takes the deduction from a type B ship and not from a type A ship
+unfoldable pub short5 : ℕ → ℕ → List ℕ
+short5 a b =
+    a ∷ b ∷ 0x1a ∷ 0xdb ∷ 0x01 ∷ 0xf4 ∷ 0x01 ∷ 0xf4 ∷ 0x06 ∷ 0xa4 ∷ 0x25 ∷ 0x1c ∷ 0x12 ∷ 0x3c ∷ 0x20 ∷ 0x60 ∷ 0x20 ∷ 0xc1 ∷ 0x05 ∷ 0x10 ∷ 0x30
+    ∷ 0x91 ∷ 0xd0 ∷ 0x00 ∷ 0x00 ∷ 0x00 ∷ 0x00 ∷ 0x80 ∷ 0x00 ∷ 0x00 ∷ 0x04 ∷ 0xe2 ∷ 0x04 ∷ 0x7e ∷ 0x00 ∷ 0x83 ∷ 0x2c ∷ 0x80 ∷ 0x1a ∷ 0xdb ∷ 0x04 ∷ 0x7e ∷ 0x00 ∷ []
+
 -- the line by type at 120 m
 abbrev pub line5 : ℕ → ℕ
 line5 kind = basisOf kind 120000 .line
@@ -76,7 +82,7 @@ line5 kind = basisOf kind 120000 .line
 abbrev pub other5 : ℕ → ℕ → ℕ → ℕ → List ℕ
 other5 opening a b c = opening ∷ 0x00 ∷ a ∷ b ∷ c ∷ drop 3 particulars
 
--- k2 with portable covers, and k1 in version 2
+-- k2 with portable covers, sample/covers.record, and k1 in version 2
 unfoldable pub covered5 : List ℕ
 covered5 = 0x28 ∷ 0x20 ∷ particulars ++ forecastle
 
@@ -140,6 +146,8 @@ requests =
     ∷ one 5 (summer5 0x26 0x20) 1398
     ∷ one 5 (summer5 0x28 0x20) 1713
     ∷ one 5 (summerOf (shipIn full5)) 1869
+    ∷ one 5 (summerOf (shipIn (short5 0x10 0x80))) 1281
+    ∷ one 5 (summerOf (shipIn (short5 0x26 0x40))) 1446
     ∷ marksRow 5 (sheetIn covered5) (0 ∷ 0 ∷ 0 ∷ 1074 ∷ 972 ∷ 1177 ∷ 1227 ∷ 972 ∷ 870 ∷ [])
     ∷ refusalRow 5 (readingIn (other5 0x24 0x18 0x6a 0x01) .verdict) (22 ∷ 0 ∷ 0 ∷ [])
     ∷ refusalRow 5 (readingIn (other5 0x24 0x18 0x6a 0x11) .verdict) (0 ∷ 0 ∷ 0 ∷ [])
@@ -153,6 +161,7 @@ requests =
     ∷ refusalRow 5 (readingIn second5 .verdict) (0 ∷ 0 ∷ 0 ∷ [])
     ∷ row 5 (recordBytes (shipIn second5)) k1
     ∷ row 5 (recordBytes (shipIn covered5)) covered5
+    ∷ askedRow 5 (replyIn covered5 1950 1000) (0 ∷ 0 ∷ 0 ∷ 96 ∷ [])
     ∷ one 8 (lacks8 1333) 83438
     ∷ one 8 (lacks8 1334) 83375
     ∷ one 8 (lacks8 1335) 83238

@@ -49,7 +49,7 @@ class WriteAnswer(Answer):
 
 
 # The number is the header's: with other structs than these the library has another.
-library = CDLL(str(Path(__file__).resolve().parent.parent / "target/lib/libloadline.so.2"))
+library = CDLL(str(Path(__file__).resolve().parent.parent / "target/lib/libloadline.so.3"))
 # ctypes takes what is not declared for a C int, so each call is declared.
 for call, result, arguments in (
     (library.loadline_marks, MarksAnswer, [c_char_p, c_size_t]),

@@ -59,9 +59,10 @@
 #include <stddef.h>
 #include <stdint.h>
 
-/* Another number with every change of a struct or a call. The shared library carries it in its own name, libloadline.so.N, so that
- * no program that was linked to one loads it for another. 2: every answer has an overlap. */
-#define LOADLINE_HEADER 2
+/* Another number with every change of a struct, a call, or what a number of an answer may be. The shared library carries it in its own name, libloadline.so.N, so that
+ * no program that was linked to one loads it for another. 2: every answer has an overlap.
+ * 3: kinds 2 to 4, refusal 22. */
+#define LOADLINE_HEADER 3
 
 #ifdef __cplusplus
 extern "C" {
@@ -92,14 +93,14 @@ enum loadline_refusal {
 };
 
 /* What a ship's `kind` may be: its type, as regulation 27 has it. All but A are type B ships, and differ from one another in
- * the line that they begin from and in the least freeboard alone.
+ * the line that their marks are worked from and in the least freeboard alone.
  *
- *   Type             The table's freeboard                                        Least S and T   Record version
+ *   Type             The line                                                     Least S and T   Written in version
  *   A                table 28.1                                                   50 mm           1
  *   B                table 28.2                                                   50 mm           1
- *   B-60             B less 60 per cent of B - A, rounded up; L above 100 m       50 mm           2
+ *   B-60             B less 60 per cent of B - A, up to um; L above 100 m         50 mm           2
  *   B-100            B less all of B - A, which is A; L above 100 m               50 mm           2
- *   portable covers  B and table 27.1; L to 200 m                                 150 mm          2 */
+ *   portable covers  B plus table 27.1; L to 200 m                                150 mm          2 */
 enum loadline_kind {
     LOADLINE_TYPE_A = 0,
     LOADLINE_TYPE_B = 1,
@@ -169,12 +170,12 @@ loadline_marks_answer loadline_marks(const uint8_t *record, size_t length);
 
 /* The shortest poop for which the record's ship would have marks with S at most `wish` mm: an enclosed house of `height` mm
  * from the after perpendicular, set before the others, in whole decimetres up to L. Every shorter one has been ruled out.
- * It asks by the ship's own type: no mark with portable covers is below 150 mm, so that a smaller wish is refused with 16.
+ * It asks by the ship's own type: with portable covers S is never below 150 mm, so that a wish of 50 to 149 has no length (16).
  * Refuses 1 to 11, 18 and 22, then 14 to 16. The record's own marks need not exist: 12 and 13 are no refusals here. */
 loadline_poop_answer loadline_shortest_poop(const uint8_t *record, size_t length, uint64_t height, uint64_t wish);
 
 /* The ship of a record of version 1 or 2. Writing it gives the same bytes back where the record is in the lowest version that
- * holds the ship, which is 1 for types A and B; otherwise it gives a record of that version, which reads as the same ship.
+ * holds the ship, which is 1 for types A and B and 2 for the others; otherwise it gives a record of that version, which reads as the same ship.
  * Refuses 1 to 11, 18 and 22. */
 loadline_read_answer loadline_read(const uint8_t *record, size_t length);
 

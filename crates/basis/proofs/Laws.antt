@@ -41,6 +41,10 @@ reduced-code p l h g = reduced-quotient p (tableA l) (tableB l) h (tabular-a-at-
 pub b100-is-a : (l : ℕ) → l ≤ 365000 → ceil (exactReduced 100 l) ≡ tableA l
 b100-is-a l h = omega (arith, reduced-code 100 l (omega arith) h, tabular-a-at-most-b l h)
 
+pub b100-line : (l : ℕ) → l ≤ 365000 → basisOf kindA l .line ≡ basisOf kindB100 l .line
+unfolding basisOf
+b100-line l h = sym (b100-is-a l h)
+
 pub b100-exact : (l : ℕ) → l ≤ 365000 → exactReduced 100 l ≈f whole (tableA l)
 unfolding exactReduced
 b100-exact l h = omega (arith, tabular-a-at-most-b l h)

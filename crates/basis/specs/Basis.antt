@@ -11,6 +11,13 @@ pub record Basis : Type 0 where
   pub exact : Frac
   pub floor : ℕ
 
+-- 40(2) and (4): the least freeboard of S and T, in mm; with portable covers it is greater
+abbrev pub least : ℕ
+least = 50
+
+abbrev pub leastWithCovers : ℕ
+leastWithCovers = 150
+
 -- a line that is exact in um
 abbrev pub ownLine : ℕ → ℕ → Basis
 ownLine line floor = record { line = line; exact = whole line; floor = floor }
@@ -21,13 +28,13 @@ exactReduced percent l = whole (tableB l) -f frac percent 100 *f (whole (tableB 
 
 -- up
 abbrev pub reducedLine : ℕ → ℕ → Basis
-reducedLine percent l = record { line = ceil (exactReduced percent l); exact = exactReduced percent l; floor = 50 }
+reducedLine percent l = record { line = ceil (exactReduced percent l); exact = exactReduced percent l; floor = least }
 
--- by the type's number: A (27(4)), B (27(7)), B-60 (27(9)), B-100 (27(10)), B with portable covers (27(6)); 40(2): at least 50 mm, with portable covers 150.
--- A number past the last is refused before it comes here
+-- by the type's number: A (27(4)), B (27(7)), B-60 (27(9)), B-100 (27(10)), B with portable covers (27(6)). A number past the last is
+-- refused before it comes here
 unfoldable pub basisOf : ℕ → ℕ → Basis
 basisOf kind l =
     getD
-    (ownLine (tableA l) 50 ∷ ownLine (tableB l) 50 ∷ reducedLine 60 l ∷ reducedLine 100 l ∷ ownLine (tableB l + coversAdd l) 150 ∷ [])
+    (ownLine (tableA l) least ∷ ownLine (tableB l) least ∷ reducedLine 60 l ∷ reducedLine 100 l ∷ ownLine (tableB l + coversAdd l) leastWithCovers ∷ [])
     kind
     (ownLine 0 0)

@@ -23,7 +23,7 @@ const LEAST: u64 = 50;
 
 const LEAST_WITH_COVERS: u64 = 150;
 
-// How much of what B is above A a B-60 ship is spared, in per cent.
+// The part of B - A that a B-60 ship is spared, in per cent.
 const SPARED: u64 = 60;
 
 // The line of a B-60 ship. What it is spared is rounded down, so that the line is rounded up.

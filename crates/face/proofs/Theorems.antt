@@ -1,5 +1,5 @@
--- Through the calls for C a ship that was written is read back, and a record that was read is written back to its bytes; beside a refusal the ship is all zeros;
--- and no second answer meets a call's contract.
+-- Through the calls for C a ship that was written is read back, and a record that was read is written back, to its bytes if it is in the lowest version that holds its ship; beside a refusal the ship is all
+-- zeros; and no second answer meets a call's contract.
 use Prim.Native.Nat.{ℕ, _≤_, _<_}
 use mathlib.Core.List.{List, [], _∷_, _++_}
 use mathlib.Core.Path.{_≡_, refl, sym, ap, _∙_}

@@ -1,9 +1,8 @@
 // Checks 7, 22 and 8, on a ship's fields and its type.
-ghost use mathlib.Core.Bool.{_||_};
 ghost use mathlib.Core.Path.{_≡_};
 ghost use Prim.Native.Nat.{_≤_};
 ghost use Rattle.ship.specs.Refusals.{paper, first};
-ghost use Rattle.ship.specs.Checks.{fieldsOf, fieldOut, reducedShort, coversLong, fieldLines};
+ghost use Rattle.ship.specs.Checks.{fieldsOf, fieldOut, unfitLength, fieldLines};
 use ship::Ship;
 use ship::kind;
 use ship::refusal;
@@ -73,14 +72,14 @@ fn field_out(fields: [u64; 13]) -> usize
     k
 }
 
-// What regulation 27 sets a type by its length, in mm: one of reduced freeboard must be above the first, and table 27.1 ends with the second.
+// In mm: a ship of reduced freeboard is longer than the first (27(8)), and table 27.1 ends at the second.
 const REDUCED_ABOVE: u64 = 100000;
 
 const COVERS_TO: u64 = 200000;
 
 // Whether the type does not admit the length.
 fn unfit_length(kind: u64, l: Span) -> bool
-    ensures { λ r. ⌜ r ≡ (reducedShort kind (l .0) || coversLong kind (l .0)) ⌝ }
+    ensures { λ r. ⌜ r ≡ unfitLength kind (l .0) ⌝ }
 {
     let mm = l.0;
     let reduced = (kind == kind::B_60) | (kind == kind::B_100);

@@ -2,6 +2,7 @@
 // What must come is in `stdout`, made by `samples records` of twin/, which shares no code with the crates.
 use record::HEAD_BYTES;
 use record::HOUSE_BYTES;
+use record::MOST_HOUSES;
 use ship::Ship;
 use ship::refusal::Verdict;
 
@@ -23,12 +24,27 @@ fn is_copy(out: &[u8; 128], s: &[u8]) -> bool {
     true
 }
 
-// The record of a ship with `n` houses, which stands first in `out`.
-fn record(out: &[u8; 128], n: usize) {
+// Whether `out` is untouched from byte `e` on.
+fn is_untouched(out: &[u8; 128], e: usize) -> bool {
+    let mut k = e;
+    while k < 128 {
+        if out[k] != 0xA5 {
+            return false;
+        }
+        k += 1;
+    }
+    true
+}
+
+// Prints the record of a ship with `n` houses, which stands first in `out` with nothing behind it.
+fn print_written(out: &[u8; 128], n: usize) {
     let t = &out[..];
-    if n <= 8 {
+    if n as u64 <= MOST_HOUSES {
         let e = HEAD_BYTES + HOUSE_BYTES * n;
         show::hex(&t[0..e]);
+        if !is_untouched(out, e) {
+            show::text(b" and more");
+        }
     }
 }
 
@@ -41,7 +57,7 @@ fn back(x: Ship, s: &[u8]) {
                 show::text(b" back");
             } else {
                 show::text(b" as ");
-                record(&out, x.n);
+                print_written(&out, x.n);
             }
         }
         Verdict::Refused(r) => {

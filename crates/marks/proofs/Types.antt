@@ -1,19 +1,22 @@
--- 02 §5 of the call: the four type B kinds in one statement, and the marks of records whose ships differ in type alone, in the order of their lines.
+-- 02 §5 of the call: the four type B kinds in one statement, the order of S for records whose ships differ in type alone, and when A and B-100 have the same marks.
 use Prim.Native.Nat.{ℕ, _≤_}
+use mathlib.Core.Bool.{true, false}
 use mathlib.Core.List.{List}
 use mathlib.Core.Path.{_≡_, ap, ap₂, _∙_}
 use Rattle.ship.specs.declared.Ship.{Ship}
-use Rattle.ship.specs.Kinds.{kindB}
+use Rattle.ship.specs.Kinds.{kindA, kindB, kindB100}
 use Rattle.ship.specs.Refusals.{accepted, first}
 use Rattle.record.specs.Reading.{readingIn}
 use Rattle.mark.specs.declared.Marks.{Marks}
 use Rattle.mark.specs.declared.Answer.the-variants.{Given}
 use Rattle.mark.specs.Others.{Sheet, markLines, sixMarks, sheet, sheetAt}
 use Rattle.mark.proofs.OneToOne.{given-marks}
+use Rattle.houses.specs.Effective.{exactEffective}
+use Rattle.deduction.specs.Deduction37.{lacksForecastle}
 use Rattle.basis.specs.Basis.{basisOf}
 use Rattle.basis.proofs.Laws.{inOrder}
-use Rattle.steps.specs.Steps.{summerBy, summerOf, particularsBy, particularsOf}
-use Rattle.steps.proofs.Types.{ofKind, four-summers, four-particulars, summers-in-order}
+use Rattle.steps.specs.Steps.{forecastleHouse, summerBy, summerOf, particularsBy, particularsOf}
+use Rattle.steps.proofs.Types.{ofKind, four-summers, four-particulars, summers-in-order, b100-summer, b100-particulars}
 use Rattle.marks.specs.Marks.{sheetFor, sheetIn}
 use Rattle.marks.proofs.Sheet.{sheet-read, sound-read}
 
@@ -40,3 +43,10 @@ pub marks-in-order : (x : Ship) (i j : ℕ) → i ≤ j → j ≤ 4 → (s t : L
 marks-in-order x i j h k s t p q m n a b =
     rw (given-summer s (ofKind (inOrder i) x) p m a, given-summer t (ofKind (inOrder j) x) q n b)
     (summers-in-order x (sound-read s (ofKind (inOrder i) x) p .good .length-most) i j h k)
+
+-- A and B-100 have one line, and the same marks where 37 grants a type B ship its deduction
+pub b100-marks : (x : Ship) → 100000 ≤ x .length .0 → x .length .0 ≤ 365000
+    → lacksForecastle true (exactEffective (x .length .0) (forecastleHouse x)) (x .length .0) ≡ false
+    → sheetFor (ofKind kindA x) ≡ sheetFor (ofKind kindB100 x)
+unfolding sheetFor
+b100-marks x h g f = ap₂ sheetAt (b100-particulars x) (b100-summer x h g f)

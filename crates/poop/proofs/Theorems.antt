@@ -95,7 +95,7 @@ module _ (s : List ℕ) (height wish : ℕ) where
   sixteen-given e f =
       rw e (one-shortest (fitsAt x height wish) (x .length .0) (shortestFor x height wish) noLength (is-shortest x height wish) (none f))
 
-  -- no mark is below the floor of the ship's type, so that a smaller wish has no length: 150 mm with portable covers
+  -- no summer mark is below the floor of the ship's type, so that a smaller wish has no length. 14 leaves such wishes to portable covers alone: 50 to 149 mm
   pub below-floor : first lines ≡ accepted → wish < basis x .floor → replyIn s height wish ≡ noLength
   below-floor e h = sixteen-given e (λ j i. unfit x height wish j h)
 

@@ -1,4 +1,4 @@
--- Reading a written record gives the ship back, and writing an accepted record's ship gives its bytes back.
+-- Reading a written record gives the ship back, and writing an accepted record's ship gives its bytes back if it is in the lowest version that holds the ship.
 use Prim.Native.Nat.{ℕ, zero, suc, _+_, _-_, _*_, _^_, _≤_, _<_}
 use mathlib.Core.List.{List, [], _∷_, _++_, append-nil}
 use mathlib.Core.Path.{_≡_, refl, sym, ap, ap₂, subst, _∙_}
@@ -132,6 +132,9 @@ module _ (x : Ship) (shaped : Shaped x) (k : x .kind ≤ lastType) (m : x .n ≤
   head-is : headIn (recordBytes x) ≡ shipHead x
   unfolding recordBytes
   head-is = head-back (shipHead x) (shaped .six) (g .sheer) (head-fits x k m g) (housesBytes (housesOf x))
+
+  pub version-back : versionIn (recordBytes x) ≡ lowestFor (x .kind)
+  version-back = sym (version-is (recordBytes x)) ∙ ap (λ (h : Head). h .version) head-is
 
   places-back : placesIn (x .n) (recordBytes x) ≡ clean x .houses
   unfolding placesIn recordBytes

@@ -1,4 +1,4 @@
--- The promises of document 01 about the record, each in one statement.
+-- The promises of 01 and 02 about the record, each in one statement.
 use Prim.Native.Nat.{ℕ, _+_, _-_, _≤_}
 use mathlib.Core.List.{List, _++_}
 use mathlib.Core.Path.{_≡_, refl, sym, ap, _∙_}
@@ -15,7 +15,7 @@ use Rattle.record.specs.Layout.{recordLength, lastType, lowestFor, versi
 use Rattle.record.specs.Reading.{readingIn}
 use Rattle.record.specs.Writing.{writingOf, written}
 use Rattle.record.proofs.Written.{writing-passed}
-use Rattle.record.proofs.RoundTrip.{Shaped, length-record, read-back, shaped-read, clean-read, write-back, length-there, writes-back}
+use Rattle.record.proofs.RoundTrip.{Shaped, length-record, version-back, read-back, shaped-read, clean-read, write-back, length-there, writes-back}
 
 -- ---- reading a written record gives the ship back
 module _ (x : Ship) (shaped : Shaped x) (buf : List ℕ) (wrote : writingOf (length buf) x ≡ accepted) where
@@ -28,6 +28,13 @@ module _ (x : Ship) (shaped : Shaped x) (buf : List ℕ) (wrote : writingOf (len
   read-what-was-written =
       let l = length-record x shaped (right .0) (right .1) (right .2) in
       rw wrote (ap readingIn (take-at (recordBytes x) _ (recordLength (x .n)) l) ∙ read-back x shaped (right .0) (right .1) (right .2))
+
+  -- they are in the lowest version that holds the ship
+  pub written-version : versionIn (take (recordLength (x .n)) (written (writingOf (length buf) x) x buf)) ≡ lowestFor (x .kind)
+  unfolding written pick
+  written-version =
+      let l = length-record x shaped (right .0) (right .1) (right .2) in
+      rw wrote (ap versionIn (take-at (recordBytes x) _ (recordLength (x .n)) l) ∙ version-back x shaped (right .0) (right .1) (right .2))
 
   -- the ship written and the ship read are equal in document 01's sense
   pub same-ship : Same x (clean x)

@@ -3,7 +3,7 @@ use Prim.Native.Nat.{ℕ, _^_, _≤_, _<_}
 use mathlib.Core.List.{[], _∷_}
 use mathlib.Core.Path.{_≡_, refl, _∙_}
 use lib.Dec.{eqb, ltb}
-use borrow.Author.Tests.{le-ltb, ltb-false}
+use borrow.Author.Tests.{le-ltb, ltb-true, ltb-false}
 use native.Mathlib.Omega.{arith}
 use Rattle.whole.specs.Pick.{pick}
 use Rattle.whole.proofs.Pick.{by-cases}
@@ -46,6 +46,14 @@ lowest-holds kind k = by-cases
     (ltb (lastTypeIn 1) kind) 2 1
     (λ t. omega arith)
     (λ t. omega (arith, ltb-false 1 kind t))
+
+-- and no lower one holds it
+pub lowest-is-lowest : (kind version : ℕ) → 1 ≤ version → version < lowestFor kind → lastTypeIn version < kind
+unfolding lowestFor
+lowest-is-lowest kind version h =
+    by-cases (λ (v : ℕ). version < v → lastTypeIn version < kind) (ltb (lastTypeIn 1) kind) 2 1
+    (λ t l. let e : version ≡ 1 = omega arith in rw e (ltb-true (lastTypeIn 1) kind t))
+    (λ t l. absurd (omega arith))
 
 pub head-fits : (x : Ship) → x .kind ≤ lastType → x .n ≤ 8 → Good x → Fit (headWidths (shipHead x .version)) (headFields (shipHead x))
 head-fits x k n g =

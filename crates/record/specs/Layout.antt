@@ -143,7 +143,7 @@ headOf f = record {
 unfoldable pub headBytes : Head → List ℕ
 headBytes h = bytes 27 (pack (headWidths (h .version)) (headFields h))
 
--- the version stands in the first four bits of every head; it says how wide the fields are
+-- the version stands in the first four of the 216 bits of every head; it says how wide the fields are
 abbrev pub versionIn : List ℕ → ℕ
 versionIn s = piece (number (take 27 s)) 212 4
 

@@ -11,7 +11,7 @@ pub const LENGTH: u64 = DEPTH + width::DEPTH;
 
 pub const SPARE: u64 = LENGTH + width::LENGTH;
 
-// n and the type stand where the version has them.
+// The spare bits, whose number the version decides, stand after n and the type.
 pub fn count(version: u64) -> u64
     ensures { λ r. ⌜ (r ≡ 48 + spareBits version) × (r < 56) ⌝ }
 {

@@ -22,7 +22,9 @@ pub const HOUSE_BYTES: usize = 8;
 // The versions; the last of the types; the most houses.
 pub const FIRST_VERSION: u64 = 1;
 
-pub const LAST_VERSION: u64 = 2;
+pub const SECOND_VERSION: u64 = 2;
+
+pub const LAST_VERSION: u64 = SECOND_VERSION;
 
 pub const LAST_TYPE: u64 = kind::PORTABLE_COVERS;
 
@@ -59,7 +61,7 @@ pub fn last_type_in(version: u64) -> u64
 pub fn lowest_for(kind: u64) -> u64
     ensures { λ r. ⌜ r ≡ lowestFor kind ⌝ }
 {
-    if kind > last_type_in(FIRST_VERSION) { LAST_VERSION } else { FIRST_VERSION }
+    if kind > last_type_in(FIRST_VERSION) { SECOND_VERSION } else { FIRST_VERSION }
 }
 
 // A flag's bit.

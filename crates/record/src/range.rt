@@ -8,6 +8,7 @@ use crate::width;
 // ---- the head
 pub const VERSION: u64 = 1 << width::VERSION;
 
+// In version 1, and from version 2 on.
 const KIND_IN_1: u64 = 1 << width::KIND_IN_1;
 
 const KIND: u64 = 1 << width::KIND;

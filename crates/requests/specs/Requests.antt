@@ -1,4 +1,4 @@
--- 02: the figures that its requests and their readings state, in the same form; for §8, which states none, figures worked by hand. A row has the request's number.
+-- 02: the figures that its requests and their readings state, in the same form; for §8, which states none, figures worked by hand; for §5 also marks of its own ships. A row has the request's number.
 use Prim.Native.Nat.{ℕ, _+_, _*_}
 use mathlib.Core.List.{List, [], _∷_, _++_}
 use lib.ListN.{drop}
@@ -78,7 +78,7 @@ short5 a b =
 abbrev pub line5 : ℕ → ℕ
 line5 kind = basisOf kind 120000 .line
 
--- k1's particulars with another L, of five hexadecimal digits in the first three bytes
+-- k1's particulars with another L, whose five hexadecimal digits are those of the first three bytes but the last, which is D's
 abbrev pub other5 : ℕ → ℕ → ℕ → ℕ → List ℕ
 other5 opening a b c = opening ∷ 0x00 ∷ a ∷ b ∷ c ∷ drop 3 particulars
 
@@ -104,7 +104,7 @@ flat8 = addition (deficiency (7 * lift) (7 * lift) 90001) 90001 0
 abbrev pub unrounded8 : ℕ
 unrounded8 = ceil (exactAddition (exactDeficiency (7 * lift) (7 * lift) 90001) 90001 0)
 
--- ---- the table. The questions stand last: each search goes over more than 900 lengths
+-- ---- the table. The long questions stand last: each of their searches goes over more than 900 lengths
 unfoldable pub requests : List Row
 requests =
     refusalRow 1 (two 0 20000 0 5000) (11 ∷ 1 ∷ 5000 ∷ [])

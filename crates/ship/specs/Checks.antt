@@ -52,6 +52,9 @@ reducedShort kind l = (eqb kind kindB60 || eqb kind kindB100) && leb l 100000
 abbrev pub coversLong : ℕ → ℕ → Bool
 coversLong kind l = eqb kind kindCovers && ltb 200000 l
 
+abbrev pub unfitLength : ℕ → ℕ → Bool
+unfitLength kind l = reducedShort kind l || coversLong kind l
+
 -- 8: one of fields 12, 13 zero and not the other
 abbrev pub halfCertified : Ship → Bool
 halfCertified x = not (Bool·beq (eqb (x .displacement) 0) (eqb (x .immersion) 0))
@@ -119,7 +122,7 @@ houseLines l hs = houseLine 9 EndsAndHeight l hs ∷ houseLine 10 RaisedQuarterd
 abbrev pub fieldLines : Ship → List Line
 fieldLines x =
     (ltb (fieldOut (fieldsOf x)) 13, refused 7 (fieldOut (fieldsOf x) + 1))
-    ∷ (reducedShort (x .kind) (x .length .0) || coversLong (x .kind) (x .length .0), refused 22 0)
+    ∷ (unfitLength (x .kind) (x .length .0), refused 22 0)
     ∷ (halfCertified x, refused 8 0)
     ∷ []
 

@@ -1,5 +1,5 @@
 -- Demand 2: the summer mark of every accepted ship is never below its exact value, and less than 1.1 mm above it.
--- What each rounding can cost adds up along the formula: 4.84 um up to what depth adds, of which the line of a B-60 ship has 1 um, 1 um in what it takes, 3.25 um in the houses' deduction, 2 um in sheer;
+-- What each rounding can cost adds up along the formula: 4.84 um up to what depth adds, where 1 um of a B-60 ship's line has grown to 1.39 by fullness, 1 um in what it takes, 3.25 um in the houses' deduction, 2 um in sheer;
 -- 13 um in the bow's freeboard.
 -- Before the last rounding, to whole mm, 100 um would do (`summer-holds`).
 use Prim.Native.Nat.{_*_, _-_, _≤_}

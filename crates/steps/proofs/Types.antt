@@ -1,4 +1,4 @@
--- 02 §5, of a ship: the four type B kinds differ in line and floor alone, and the marks of ships that differ in type alone stand in the order of their lines.
+-- 02 §5, of a ship: the four type B kinds differ in line and floor alone, and the summer marks of ships that differ in type alone stand in the order of their lines.
 use mathlib.Core.Path.{_≡_, refl, sym, ap, ap₂, _∙_}
 use mathlib.Core.Bool.{true, false}
 use mathlib.Core.List.{List}
@@ -20,7 +20,7 @@ use Rattle.mark.specs.Summer.{summerMark}
 use Rattle.mark.proofs.Bound.{summer-least, summer-rises}
 use Rattle.tabular.specs.Tabular.{tableA}
 use Rattle.basis.specs.Basis.{basisOf}
-use Rattle.basis.proofs.Laws.{inOrder, five-rise, lines-in-order, b100-is-a}
+use Rattle.basis.proofs.Laws.{inOrder, five-rise, lines-in-order, b100-line}
 use Rattle.steps.specs.Steps.{basis, coveredS, effectiveE, forecastleHouse, amidshipsRatio, coverReach, addedTo, takenFrom, bowOf, summerBy, summerOf, particularsBy, particularsOf}
 
 -- a ship that differs in type alone
@@ -55,7 +55,7 @@ pub floor-least : (x : Ship) → basis x .floor ≤ summerOf x
 unfolding summerOf
 floor-least x = summer-least (basis x .floor) (addedTo (basis x .line) x) (takenFrom ordinaryRow x) (bowOf x)
 
--- ---- the order of the marks: A, B-100, B-60, B, B with portable covers
+-- ---- the order of the summer marks: A, B-100, B-60, B, B with portable covers
 module _ (x : Ship) (j k : ℕ) (lines : basisOf j (x .length .0) .line ≤ basisOf k (x .length .0) .line) (b : isTypeB j ≡ true → isTypeB k ≡ true) where
   more-added : addedTo (basisOf j (x .length .0) .line) (ofKind j x) ≤ addedTo (basisOf k (x .length .0) .line) (ofKind k x)
   unfolding addedTo coveredS effectiveE
@@ -86,7 +86,7 @@ summers-in-order x h =
       higher-line x (inOrder 3) (inOrder 4) (line 3 4 (omega arith) (omega arith)) (λ t. refl) (omega arith),
     )
 
--- A and B-100 have one line. Their marks are the same where 37 grants a type B ship its deduction: its forecastle rule is for type B alone
+-- A and B-100 have one line. Their summer marks are the same where 37 grants a type B ship its deduction: its forecastle rule is for type B alone
 module _ (x : Ship) (h : 100000 ≤ x .length .0) (g : x .length .0 ≤ 365000) where
   same-added : addedTo (basisOf kindA (x .length .0) .line) (ofKind kindA x) ≡ addedTo (basisOf kindB100 (x .length .0) .line) (ofKind kindB100 x)
   unfolding addedTo coveredS effectiveE basisOf
@@ -95,7 +95,7 @@ module _ (x : Ship) (h : 100000 ≤ x .length .0) (g : x .length .0 ≤ 365000) 
       let d = x .depth .0 in
       let cb = counted (x .block) in
       ap (λ (n : ℕ). n + Sheer.added (x .sheer) l (coveredS x))
-      (added-long (tableA l) false true l d cb (effectiveE x) h ∙ ap (λ (line : ℕ). Before.added line true l d cb (effectiveE x)) (sym (b100-is-a l g)))
+      (added-long (tableA l) false true l d cb (effectiveE x) h ∙ ap (λ (line : ℕ). Before.added line true l d cb (effectiveE x)) (b100-line l g))
 
   same-taken : lacksForecastle true (exactEffective (x .length .0) (forecastleHouse x)) (x .length .0) ≡ false
       → (row : List ℕ) → takenFrom row (ofKind kindA x) ≡ takenFrom row (ofKind kindB100 x)
@@ -108,3 +108,8 @@ module _ (x : Ship) (h : 100000 ≤ x .length .0) (g : x .length .0 ≤ 365000) 
   pub b100-summer : lacksForecastle true (exactEffective (x .length .0) (forecastleHouse x)) (x .length .0) ≡ false → summerOf (ofKind kindA x) ≡ summerOf (ofKind kindB100 x)
   unfolding summerOf bowOf forecastleHouse basisOf
   b100-summer f = ap₂ (λ (a t : ℕ). summerMark 50 a t (bowOf x)) same-added (same-taken f ordinaryRow)
+
+-- what their other marks are worked from is the same in any case
+pub b100-particulars : (x : Ship) → particularsOf (ofKind kindA x) ≡ particularsOf (ofKind kindB100 x)
+unfolding particularsOf basisOf
+b100-particulars x = refl

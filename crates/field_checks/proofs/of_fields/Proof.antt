@@ -1,19 +1,19 @@
 -- The field that the search found is the definition's, and the three lines are the table's.
 use Prim.Native.Nat.{ℕ, _+_}
-use mathlib.Core.Bool.{Bool, _||_}
+use mathlib.Core.Bool.{Bool}
 use mathlib.Core.Path.{_≡_, refl, ap, _∙_}
 use lib.Dec.{ltb}
 use borrow.Author.Needs.{needs}
 use Rattle.whole.specs.Pick.{pick}
 use Rattle.ship.specs.declared.Ship.{Ship}
 use Rattle.ship.specs.Refusals.{Paper, paper, accepted, refused, first}
-use Rattle.ship.specs.Checks.{fieldsOf, fieldOut, reducedShort, coversLong, halfCertified, fieldLines}
+use Rattle.ship.specs.Checks.{fieldsOf, fieldOut, unfitLength, halfCertified, fieldLines}
 use Rattle.field_checks.proofs.of_fields.Statement.{statement}
 use Rattle.field_checks.proofs.of_fields.Tie as tie
 
 -- three lines, from the last up, are the table's
 lines : (x : Ship) (k : ℕ) (t u v : Paper) → k ≡ fieldOut (fieldsOf x) → t ≡ pick (halfCertified x) (refused 8 0) accepted
-    → u ≡ pick (reducedShort (x .kind) (x .length .0) || coversLong (x .kind) (x .length .0)) (refused 22 0) t
+    → u ≡ pick (unfitLength (x .kind) (x .length .0)) (refused 22 0) t
     → v ≡ pick (ltb k 13) (refused 7 (k + 1)) u → v ≡ first (fieldLines x)
 unfolding first
 lines x k t u v e p q r = rw (r, q, p, e) refl

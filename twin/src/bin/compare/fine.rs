@@ -119,8 +119,8 @@ mod tests {
     use super::*;
     use twin::record::Kind;
 
-    /// Ships of every type, and B-60 where the rounding of its line shows: with a line that is not whole
-    /// fifths of a um, one um above a whole mm.
+    /// Ships of every type, and B-60 where the rounding of its line shows: with a line that is not whole um,
+    /// one um above a whole mm.
     #[test]
     fn lines_show() {
         let mut random = Random::new(60);

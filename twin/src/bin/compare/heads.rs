@@ -35,7 +35,7 @@ pub fn damage(random: &mut Random, record: &mut [u8]) {
             2 => bits::put_over(record, 4, 3, random.between(0, 7) as u64),
             3 => bits::put_over(record, 7, 4, random.between(0, 15) as u64),
             4 => record[1] ^= 1 << random.between(0, 5),
-            // The last spare bits of a house, or of the immersion if there is none.
+            // A spare bit of the first or the second house; without it, a byte behind the record.
             _ => record[random.pick(&[34, 42])] ^= 1 << random.between(0, 6),
         }
     }

@@ -54,14 +54,22 @@ pub struct Head {
 pub fn last_type_in(version: u64) -> u64
     ensures { λ r. ⌜ r ≡ lastTypeIn version ⌝ }
 {
-    if version == FIRST_VERSION { kind::B } else { LAST_TYPE }
+    if version == FIRST_VERSION {
+        kind::B
+    } else {
+        LAST_TYPE
+    }
 }
 
 // The lowest version that holds a ship of a type.
 pub fn lowest_for(kind: u64) -> u64
     ensures { λ r. ⌜ r ≡ lowestFor kind ⌝ }
 {
-    if kind > last_type_in(FIRST_VERSION) { SECOND_VERSION } else { FIRST_VERSION }
+    if kind > last_type_in(FIRST_VERSION) {
+        SECOND_VERSION
+    } else {
+        FIRST_VERSION
+    }
 }
 
 // A flag's bit.

@@ -50,11 +50,19 @@ pub const HOUSE_SPARE: u64 = 1 << width::HOUSE_SPARE;
 pub fn kind(version: u64) -> u64
     ensures { λ r. ⌜ (r ≡ 2 ^ kindBits version) × (0 < r) × (r ≤ 8) ⌝ }
 {
-    if version == FIRST_VERSION { KIND_IN_1 } else { KIND }
+    if version == FIRST_VERSION {
+        KIND_IN_1
+    } else {
+        KIND
+    }
 }
 
 pub fn spare(version: u64) -> u64
     ensures { λ r. ⌜ (r ≡ 2 ^ spareBits version) × (0 < r) × (r ≤ 64) ⌝ }
 {
-    if version == FIRST_VERSION { SPARE_IN_1 } else { SPARE }
+    if version == FIRST_VERSION {
+        SPARE_IN_1
+    } else {
+        SPARE
+    }
 }

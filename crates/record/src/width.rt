@@ -50,5 +50,9 @@ pub const HOUSE_SPARE: u64 = 7;
 pub fn spare(version: u64) -> u64
     ensures { λ r. ⌜ (r ≡ spareBits version) × (r ≤ 6) ⌝ }
 {
-    if version == FIRST_VERSION { SPARE_IN_1 } else { SPARE }
+    if version == FIRST_VERSION {
+        SPARE_IN_1
+    } else {
+        SPARE
+    }
 }

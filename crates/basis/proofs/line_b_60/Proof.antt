@@ -24,6 +24,6 @@ line-b-60-spec =
     let a = b .before in
     let l = a .before .args .l .0 in (
       c .difference2 .ensures
-      ∙ rw (m .mul-div-down .ensures, d .difference .ensures, b .tabular-b .ensures .0, a .tabular-a .ensures .0) (sym (reduced-code 60 l (omega arith) (omega arith))),
+          ∙ rw (m .mul-div-down .ensures, d .difference .ensures, b .tabular-b .ensures .0, a .tabular-a .ensures .0) (sym (reduced-code 60 l (omega arith) (omega arith))),
       omega (arith, c .difference2 .ensures, b .tabular-b .ensures .1),
     )))

@@ -29,7 +29,7 @@ covers-add-spec =
     let g = r .before in
     let f = fits rows-27 108 (g .greater .result) (r .row-of .ensures) (n .next .ensures) (s .rows .ensures .0) (s .rows .ensures .1) (omega (arith, g .greater .ensures)) in (
       c .between .ensures .0
-      ∙ line rows-27 108 (g .greater .result) (r .row-of .ensures) (n .next .ensures) (s .rows .ensures .0) (s .rows .ensures .1)
-      ∙ ap (λ (l : ℕ). tabular 108 table27 l) (g .greater .ensures),
+          ∙ line rows-27 108 (g .greater .result) (r .row-of .ensures) (n .next .ensures) (s .rows .ensures .0) (s .rows .ensures .1)
+          ∙ ap (λ (l : ℕ). tabular 108 table27 l) (g .greater .ensures),
       omega (arith, c .between .ensures .1, f .1),
     )))

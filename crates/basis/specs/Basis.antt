@@ -30,11 +30,16 @@ exactReduced percent l = whole (tableB l) -f frac percent 100 *f (whole (tableB 
 abbrev pub reducedLine : ℕ → ℕ → Basis
 reducedLine percent l = record { line = ceil (exactReduced percent l); exact = exactReduced percent l; floor = least }
 
--- by the type's number: A (27(4)), B (27(7)), B-60 (27(9)), B-100 (27(10)), B with portable covers (27(6)). A number past the last is
--- refused before it comes here
+-- A (27(4)), B (27(7)), B-60 (27(9)), B-100 (27(10)), B with portable covers (27(6)), in the order of their numbers in the record
+abbrev pub bases : ℕ → List Basis
+bases l =
+    ownLine (tableA l) least
+    ∷ ownLine (tableB l) least
+    ∷ reducedLine 60 l
+    ∷ reducedLine 100 l
+    ∷ ownLine (tableB l + coversAdd l) leastWithCovers
+    ∷ []
+
+-- a number past the last is refused before it comes here
 unfoldable pub basisOf : ℕ → ℕ → Basis
-basisOf kind l =
-    getD
-    (ownLine (tableA l) least ∷ ownLine (tableB l) least ∷ reducedLine 60 l ∷ reducedLine 100 l ∷ ownLine (tableB l + coversAdd l) leastWithCovers ∷ [])
-    kind
-    (ownLine 0 0)
+basisOf kind l = getD (bases l) kind (ownLine 0 0)

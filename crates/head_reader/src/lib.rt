@@ -42,17 +42,14 @@ pub fn read(s: &[u8]) -> Head
     let last = bits::word(&s[19..27]);
     let sheer = sheer_in(four, last);
     let version = (first >> after::VERSION) % range::VERSION;
-    let kind = first >> after::kind(version);
-    let count = first >> after::count(version);
-    let spare = first >> after::SPARE;
     // M begins in the first word and ends in the second.
     let high = first % range::MOULDED_FIRST;
     let low = (fullness >> after::MOULDED_LAST) % range::MOULDED_LAST;
     Head {
         version,
-        kind: kind % range::kind(version),
-        count: count % range::COUNT,
-        spare: spare % range::spare(version),
+        kind: (first >> after::kind(version)) % range::kind(version),
+        count: (first >> after::count(version)) % range::COUNT,
+        spare: (first >> after::SPARE) % range::spare(version),
         length: Span((first >> after::LENGTH) % range::LENGTH),
         depth: Span((first >> after::DEPTH) % range::DEPTH),
         moulded: Span(high * range::MOULDED_LAST + low),

@@ -1,5 +1,6 @@
 pub mod Complement
 pub mod Parts
+pub mod Shifted
 pub mod Signed
 pub mod Framed
 pub mod Calls

@@ -43,7 +43,7 @@ pub lowest-holds : (kind : ℕ) → kind ≤ lastType
 unfolding lowestFor lastTypeIn kindBits spareBits pick
 lowest-holds kind k = by-cases
     (λ (v : ℕ). (v < 2 ^ 4) × (kind < 2 ^ kindBits v) × (0 < 2 ^ spareBits v) × (1 ≤ v) × (v ≤ lastVersion) × (kind ≤ lastTypeIn v))
-    (ltb (lastTypeIn 1) kind) 2 1
+    (ltb (lastTypeIn 1) kind) _ _
     (λ t. omega arith)
     (λ t. omega (arith, ltb-false 1 kind t))
 
@@ -51,7 +51,7 @@ lowest-holds kind k = by-cases
 pub lowest-is-lowest : (kind version : ℕ) → 1 ≤ version → version < lowestFor kind → lastTypeIn version < kind
 unfolding lowestFor
 lowest-is-lowest kind version h =
-    by-cases (λ (v : ℕ). version < v → lastTypeIn version < kind) (ltb (lastTypeIn 1) kind) 2 1
+    by-cases (λ (v : ℕ). version < v → lastTypeIn version < kind) (ltb (lastTypeIn 1) kind) _ _
     (λ t l. let e : version ≡ 1 = omega arith in rw e (ltb-true (lastTypeIn 1) kind t))
     (λ t l. absurd (omega arith))
 

@@ -23,7 +23,7 @@ kindBits version = pick (eqb version 1) 2 3
 unfoldable pub spareBits : ℕ → ℕ
 spareBits version = pick (eqb version 1) 6 5
 
--- version, type, houses n, spare
+-- version, type, houses n, spare: 4, 2, 4, 6 bits in version 1, and 4, 3, 4, 5 in version 2
 abbrev pub openingWidths : ℕ → List ℕ
 openingWidths version = 4 ∷ kindBits version ∷ 4 ∷ spareBits version ∷ []
 

@@ -2,22 +2,12 @@
 ghost use mathlib.Core.Path.{_≡_};
 ghost use Prim.Native.Nat.{_^_, _≤_, _<_};
 ghost use Rattle.record.specs.Layout.{kindBits, spareBits};
-use crate::FIRST_VERSION;
 use crate::width;
 
 // ---- the head
 pub const VERSION: u64 = 1 << width::VERSION;
 
-// In version 1, and from version 2 on.
-const KIND_IN_1: u64 = 1 << width::KIND_IN_1;
-
-const KIND: u64 = 1 << width::KIND;
-
 pub const COUNT: u64 = 1 << width::COUNT;
-
-const SPARE_IN_1: u64 = 1 << width::SPARE_IN_1;
-
-const SPARE: u64 = 1 << width::SPARE;
 
 pub const LENGTH: u64 = 1 << width::LENGTH;
 
@@ -50,19 +40,11 @@ pub const HOUSE_SPARE: u64 = 1 << width::HOUSE_SPARE;
 pub fn kind(version: u64) -> u64
     ensures { λ r. ⌜ (r ≡ 2 ^ kindBits version) × (0 < r) × (r ≤ 8) ⌝ }
 {
-    if version == FIRST_VERSION {
-        KIND_IN_1
-    } else {
-        KIND
-    }
+    1 << width::kind(version)
 }
 
 pub fn spare(version: u64) -> u64
     ensures { λ r. ⌜ (r ≡ 2 ^ spareBits version) × (0 < r) × (r ≤ 64) ⌝ }
 {
-    if version == FIRST_VERSION {
-        SPARE_IN_1
-    } else {
-        SPARE
-    }
+    1 << width::spare(version)
 }

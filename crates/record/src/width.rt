@@ -1,7 +1,7 @@
 // The tables of the record in documents 01 and 02: how many bits each field has.
 ghost use mathlib.Core.Path.{_≡_};
 ghost use Prim.Native.Nat.{_≤_};
-ghost use Rattle.record.specs.Layout.{spareBits};
+ghost use Rattle.record.specs.Layout.{kindBits, spareBits};
 use crate::FIRST_VERSION;
 
 // ---- the head
@@ -47,6 +47,16 @@ pub const HEIGHT: u64 = 13;
 pub const HOUSE_SPARE: u64 = 7;
 
 // ---- by the version
+pub fn kind(version: u64) -> u64
+    ensures { λ r. ⌜ (r ≡ kindBits version) × (r ≤ 3) ⌝ }
+{
+    if version == FIRST_VERSION {
+        KIND_IN_1
+    } else {
+        KIND
+    }
+}
+
 pub fn spare(version: u64) -> u64
     ensures { λ r. ⌜ (r ≡ spareBits version) × (r ≤ 6) ⌝ }
 {

@@ -42,9 +42,9 @@ read-spec =
     (λ c. search needs)
     (λ c. search needs)
     (λ c.
-    let k2 = c .before in
-    let n = k2 .before in
-    let k1 = n .before in
+    let n = c .before in
+    let k2 = n .before in
+    let k1 = k2 .before in
     let o = k1 .before in
     let d = o .before in
     let x = d .before .before in

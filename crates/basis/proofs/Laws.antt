@@ -37,7 +37,17 @@ pub reduced-code : (p l : ℕ) → p ≤ 100 → l ≤ 365000 → ceil (exactRed
 unfolding exactReduced
 reduced-code p l h g = reduced-quotient p (tableA l) (tableB l) h (tabular-a-at-most-b l g)
 
--- B-100 is A, rounded and exact
+-- ---- a line is never below its exact value, and at most 1 um above it: only a reduced one is rounded
+pub line-within : (kind l : ℕ) → Within (basisOf kind l .line) (basisOf kind l .exact) (whole 1)
+unfolding basisOf
+line-within zero l = near-self (whole (tableA l)) (whole 1)
+line-within (suc zero) l = near-self (whole (tableB l)) (whole 1)
+line-within (suc (suc zero)) l = by-ceil _
+line-within (suc (suc (suc zero))) l = by-ceil _
+line-within (suc (suc (suc (suc zero)))) l = near-self (whole (tableB l + coversAdd l)) (whole 1)
+line-within (suc (suc (suc (suc (suc k))))) l = near-self (whole 0) (whole 1)
+
+-- ---- B-100 is A, rounded and exact
 pub b100-is-a : (l : ℕ) → l ≤ 365000 → ceil (exactReduced 100 l) ≡ tableA l
 b100-is-a l h = omega (arith, reduced-code 100 l (omega arith) h, tabular-a-at-most-b l h)
 
@@ -80,16 +90,7 @@ floor-of (suc (suc (suc zero))) l h g = refl
 floor-of (suc (suc (suc (suc zero)))) l h g = absurd (g refl)
 floor-of (suc (suc (suc (suc (suc k))))) l h g = absurd (omega arith)
 
--- ---- a line is never below its exact value, and at most 1 um above it: only a reduced one is rounded
-pub line-within : (kind l : ℕ) → Within (basisOf kind l .line) (basisOf kind l .exact) (whole 1)
-unfolding basisOf
-line-within zero l = near-self (whole (tableA l)) (whole 1)
-line-within (suc zero) l = near-self (whole (tableB l)) (whole 1)
-line-within (suc (suc zero)) l = by-ceil (exactReduced 60 l)
-line-within (suc (suc (suc zero))) l = by-ceil (exactReduced 100 l)
-line-within (suc (suc (suc (suc zero)))) l = near-self (whole (tableB l + coversAdd l)) (whole 1)
-line-within (suc (suc (suc (suc (suc k))))) l = near-self (whole 0) (whole 1)
-
+-- no floor is above that of portable covers
 pub floor-most : (kind l : ℕ) → basisOf kind l .floor ≤ 150
 unfolding basisOf
 floor-most zero l = omega arith

@@ -2,7 +2,8 @@
 use Prim.Native.Nat.{ℕ, _≤_}
 use mathlib.Core.Bool.{true, false}
 use mathlib.Core.List.{List}
-use mathlib.Core.Path.{_≡_, ap, ap₂, _∙_}
+use mathlib.Core.Path.{_≡_, refl, sym, ap, ap₂, _∙_}
+use native.Mathlib.Omega.{arith}
 use Rattle.ship.specs.declared.Ship.{Ship}
 use Rattle.ship.specs.Kinds.{kindA, kindB, kindB100}
 use Rattle.ship.specs.Refusals.{accepted, first}
@@ -44,9 +45,17 @@ marks-in-order x i j h k s t p q m n a b =
     rw (given-summer s (ofKind (inOrder i) x) p m a, given-summer t (ofKind (inOrder j) x) q n b)
     (summers-in-order x (sound-read s (ofKind (inOrder i) x) p .good .length-most) i j h k)
 
--- A and B-100 have one line, and the same marks where 37 grants a type B ship its deduction
-pub b100-marks : (x : Ship) → 100000 ≤ x .length .0 → x .length .0 ≤ 365000
+-- A and B-100 have one line. Two records whose ships differ so in type alone have the same answer where 37 grants a type B ship its deduction
+b100-sheet : (x : Ship) → 100000 ≤ x .length .0 → x .length .0 ≤ 365000
     → lacksForecastle true (exactEffective (x .length .0) (forecastleHouse x)) (x .length .0) ≡ false
     → sheetFor (ofKind kindA x) ≡ sheetFor (ofKind kindB100 x)
 unfolding sheetFor
-b100-marks x h g f = ap₂ sheetAt (b100-particulars x) (b100-summer x h g f)
+b100-sheet x h g f = ap₂ sheetAt (b100-particulars x) (b100-summer x h g f)
+
+pub b100-marks : (x : Ship) (s t : List ℕ)
+    → readingIn s ≡ record { verdict = accepted; ship = ofKind kindA x } → readingIn t ≡ record { verdict = accepted; ship = ofKind kindB100 x }
+    → lacksForecastle true (exactEffective (x .length .0) (forecastleHouse x)) (x .length .0) ≡ false
+    → sheetIn s ≡ sheetIn t
+b100-marks x s t p q f =
+    let g = sound-read t (ofKind kindB100 x) q .good in
+    sheet-read s (ofKind kindA x) p ∙ b100-sheet x (omega (arith, g .reduced-long .1 refl)) (g .length-most) f ∙ sym (sheet-read t (ofKind kindB100 x) q)

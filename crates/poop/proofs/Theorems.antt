@@ -2,9 +2,9 @@
 use Prim.Native.Nat.{ℕ, _*_, _≤_, _<_}
 use mathlib.Core.Bool.{Bool, true, false, _&&_}
 use mathlib.Core.List.{List, [], _∷_, _++_}
-use mathlib.Core.Path.{_≡_, refl, sym, ap, subst}
+use mathlib.Core.Path.{_≡_, refl, sym, ap, subst, _∙_}
 use lib.Dec.{eqb, leb}
-use borrow.Author.Tests.{eqb-false, lt-leb}
+use borrow.Author.Tests.{eqb-false, le-ltb, lt-leb}
 use native.Mathlib.Nat.{lt-of-lt-of-le}
 use native.Mathlib.Omega.{arith}
 use Rattle.whole.specs.Pick.{pick}
@@ -23,7 +23,7 @@ use Rattle.steps.specs.Steps.{basis, summerOf, particularsOf}
 use Rattle.steps.proofs.Types.{floor-least}
 use Rattle.mark.specs.Others.{markLines}
 use Rattle.trial.specs.Poop.{poopHouse, withFirst, withPoop, within, marksWithin, fitsAt}
-use Rattle.question.specs.Question.{Reply, refusing, noLength, Shortest, fitting, none, askLines, replyOf, shortestFor, replyIn}
+use Rattle.question.specs.Question.{Reply, refusing, noRoom, noLength, Shortest, fitting, none, askLines, replyOf, shortestFor, replyIn}
 use Rattle.question.proofs.Search.{is-shortest, one-shortest}
 
 -- a reply of number 0 or 16 is the search's
@@ -95,13 +95,9 @@ module _ (s : List ℕ) (height wish : ℕ) where
   sixteen-given e f =
       rw e (one-shortest (fitsAt x height wish) (x .length .0) (shortestFor x height wish) noLength (is-shortest x height wish) (none f))
 
-  -- no summer mark is below the floor of the ship's type, so that a smaller wish has no length. 14 leaves such wishes to portable covers alone: 50 to 149 mm
+  -- no summer mark is below the floor of the ship's type, so that a smaller wish has no length
   pub below-floor : first lines ≡ accepted → wish < basis x .floor → replyIn s height wish ≡ noLength
   below-floor e h = sixteen-given e (λ j i. unfit x height wish j h)
-
-  pub below-covers : first lines ≡ accepted → x .kind ≡ kindCovers → wish < 150 → replyIn s height wish ≡ noLength
-  unfolding basisOf
-  below-covers e k h = below-floor e (subst (λ (kind : ℕ). wish < basisOf kind (x .length .0) .floor) (sym k) h)
 
   -- these facts leave one answer
   pub one-length : first lines ≡ accepted → (r : Reply) → Shortest (fitsAt x height wish) (x .length .0) r → r ≡ replyIn s height wish
@@ -134,3 +130,22 @@ whole-calculation s x height wish k e =
     let a : AllPass (shipLines x) = subst (λ (z : Ship). AllPass (shipLines z)) (ship-is s x e) (passes-all s x e .1) in
     let p = fields-either x (poopHouse height k) (eqb k 0) (all-pass-split (fieldLines x) (houseLines (x .length .0) (housesOf x)) a .0) in
     ap (λ (v : Paper). eqb (v .number) 0 && leb (summerOf y) wish) (sym (first-skip (fieldLines y) (hs ++ markLines (particularsOf y) (summerOf y)) p))
+
+-- ---- with portable covers, whose floor is 150 mm, a wish of 50 to 149 is in 14's range and has no length
+asked-well : (x : Ship) (height wish : ℕ) → (1 ≤ height) × (height ≤ 8191) → (50 ≤ wish) × (wish ≤ 60000) → noRoom x ≡ false → first (askLines x height wish) ≡ accepted
+unfolding first pick
+asked-well x height wish h w r =
+    rw (le-ltb height 1 (h .0), le-ltb 8191 height (h .1), le-ltb wish 50 (w .0), le-ltb 60000 wish (w .1), r) refl
+
+pub below-covers : (s : List ℕ) (x : Ship) (height wish : ℕ) → readingIn s ≡ record { verdict = accepted; ship = x } → x .kind ≡ kindCovers
+    → noRoom x ≡ false → (1 ≤ height) × (height ≤ 8191) → (50 ≤ wish) × (wish < 150) → replyIn s height wish ≡ noLength
+unfolding basisOf
+below-covers s x height wish e k r h w =
+    let y = shipIn s in
+    let same = ship-is s x e in
+    let p = passes-all s x e in
+    let passed =
+    first-skip (frameLines s) (shipLines y ++ askLines y height wish) (p .0) ∙ first-skip (shipLines y) (askLines y height wish) (p .1)
+    ∙ asked-well y height wish h (w .0, omega arith) (ap noRoom same ∙ r) in
+    below-floor s height wish passed
+    (subst (λ (kind : ℕ). wish < basisOf kind (y .length .0) .floor) (sym (ap (λ (z : Ship). z .kind) same ∙ k)) (w .1))

@@ -1,4 +1,4 @@
--- 02: the figures that its requests and their readings state, in the same form; for §8, which states none, figures worked by hand; for §5 also marks of its own ships. A row has the request's number.
+-- 02: the figures stated with its requests and their readings, in the same form; for §8, which has none, figures worked by hand, and for §5 some besides. A row has the request's number.
 use Prim.Native.Nat.{ℕ, _+_, _*_}
 use mathlib.Core.List.{List, [], _∷_, _++_}
 use lib.ListN.{drop}
@@ -61,8 +61,12 @@ asked4 wish = replyIn r4 2300 wish
 unfoldable pub long5 : ℕ → ℕ → List ℕ
 long5 a b = a ∷ b ∷ 0x1d ∷ 0x4c ∷ 0x01 ∷ 0xf4 ∷ 0x01 ∷ 0xf4 ∷ 0x06 ∷ 0xa4 ∷ hullForms
 
+-- S of a record by the marks call: 0 if it is refused
+abbrev pub summerIn : List ℕ → ℕ
+summerIn s = sheetIn s .marks .s
+
 abbrev pub summer5 : ℕ → ℕ → ℕ
-summer5 a b = summerOf (shipIn (long5 a b ++ forward))
+summer5 a b = summerIn (long5 a b ++ forward)
 
 -- with portable covers and Cb 0.8
 unfoldable pub full5 : List ℕ
@@ -145,12 +149,14 @@ requests =
     ∷ one 5 (summer5 0x24 0x20) 1490
     ∷ one 5 (summer5 0x26 0x20) 1398
     ∷ one 5 (summer5 0x28 0x20) 1713
-    ∷ one 5 (summerOf (shipIn full5)) 1869
-    ∷ one 5 (summerOf (shipIn (short5 0x10 0x80))) 1281
-    ∷ one 5 (summerOf (shipIn (short5 0x26 0x40))) 1446
+    ∷ one 5 (summerIn full5) 1869
+    ∷ one 5 (summerIn (short5 0x10 0x80)) 1281
+    ∷ one 5 (summerIn (short5 0x26 0x40)) 1446
     ∷ marksRow 5 (sheetIn covered5) (0 ∷ 0 ∷ 0 ∷ 1074 ∷ 972 ∷ 1177 ∷ 1227 ∷ 972 ∷ 870 ∷ [])
     ∷ refusalRow 5 (readingIn (other5 0x24 0x18 0x6a 0x01) .verdict) (22 ∷ 0 ∷ 0 ∷ [])
     ∷ refusalRow 5 (readingIn (other5 0x24 0x18 0x6a 0x11) .verdict) (0 ∷ 0 ∷ 0 ∷ [])
+    ∷ refusalRow 5 (readingIn (other5 0x26 0x18 0x6a 0x01) .verdict) (22 ∷ 0 ∷ 0 ∷ [])
+    ∷ refusalRow 5 (readingIn (other5 0x26 0x18 0x6a 0x11) .verdict) (0 ∷ 0 ∷ 0 ∷ [])
     ∷ refusalRow 5 (readingIn (other5 0x28 0x30 0xd4 0x01) .verdict) (0 ∷ 0 ∷ 0 ∷ [])
     ∷ refusalRow 5 (readingIn (other5 0x28 0x30 0xd4 0x11) .verdict) (22 ∷ 0 ∷ 0 ∷ [])
     ∷ refusalRow 5 (writingOf 91 (shipIn (other5 0x28 0x30 0xd4 0x11))) (22 ∷ 0 ∷ 0 ∷ [])

@@ -11,7 +11,7 @@ use twin::random::Random;
 use twin::record::{read, write, House, Kind, RawShip, Ship, Version};
 use twin::refusal::Refusal;
 use twin::report::{hex, record_line};
-use twin::{table27, table28};
+use twin::table27;
 
 fn of(kind: Kind, raw: &RawShip) -> RawShip {
     RawShip { kind: kind as u64, ..raw.clone() }
@@ -120,23 +120,28 @@ fn kinds_of_b_differ_in_line_and_floor() {
         let raw = random.any_ship(i % 9);
         let Ok(plain) = of(Kind::B, &raw).check() else { continue };
         let b = steps(&plain);
-        for kind in [Kind::B60, Kind::B100, Kind::Covers] {
+        for (kind, least) in [(Kind::B60, 50), (Kind::B100, 50), (Kind::Covers, 150)] {
             let Ok(other) = of(kind, &raw).check() else { continue };
-            let s = steps(&other);
-            let same = [s.short_b, s.depth, s.depth_reduction, s.deduction, s.sheer_added, s.bow];
-            let as_b = [b.short_b, b.depth, b.depth_reduction, b.deduction, b.sheer_added, b.bow];
-            assert_eq!(same, as_b, "{raw:?}");
-            assert_eq!(s.corrected - s.fullness, b.corrected - b.fullness, "{raw:?}");
-            assert_eq!(s.table, tabular(kind, other.length), "{raw:?}");
-            assert_eq!(s.summer, up_mm(s.corrected.max(s.bow)).max(floor(kind)), "{raw:?}");
+            // The kind's line with B's own addition, through 30; the rest is B's.
+            let line = tabular(kind, other.length) + b.short_b;
+            let full = match other.cb.min(10_000) {
+                ..=6_800 => line,
+                cb => up(line * (cb + 6_800), 13_600),
+            };
+            let corrected = full + (b.corrected - b.fullness);
+            let summer = up(corrected.max(b.bow), 1_000).max(least);
+            assert_eq!(steps(&other).summer, summer, "{raw:?}");
+            let Ok(given) = marks(&other) else { continue };
+            let tropical = (summer - (other.depth - summer) / 48).max(least);
+            assert_eq!((given.summer, given.tropical), (summer, tropical), "{raw:?}");
             compared += 1;
         }
     }
     assert!(compared > 4_000, "{compared}");
 }
 
-fn up_mm(um: i64) -> i64 {
-    -(-um).div_euclid(1000)
+fn up(value: i64, by: i64) -> i64 {
+    -(-value).div_euclid(by)
 }
 
 /// A = B-100 <= B-60 <= B <= B with portable covers, the last up to 200 m.
@@ -147,7 +152,6 @@ fn order_of_the_lines() {
         assert!(a == b100 && b100 <= b60 && b60 <= b, "{length}");
         assert!(length > 200_000 || b <= covers, "{length}");
     }
-    assert_eq!(table28::TYPE_A.len(), table28::TYPE_B.len());
 }
 
 /// The summer mark of the ship as this type, where it gets one.
@@ -293,13 +297,14 @@ fn lengths_of_the_types() {
     }
 }
 
-/// 22 stands after 7 and before 8 in reader and writer.
+/// 22 stands after 7 and before 8 in every call.
 #[test]
 fn place_of_22() {
     let check = |raw: &RawShip| {
         let refusal = raw.check().map(|_| ());
         assert_eq!(read(&packed(raw)).map(|_| ()), refusal);
         assert_eq!(write(&mut [], raw).map(|_| ()), refusal);
+        assert_eq!(read(&packed(raw)).and_then(|ship| marks(&ship)).map(|_| ()), refusal);
         assert_eq!(shortest_poop(&packed(raw), 0, 0).map(|_| ()), refusal);
         refusal
     };
@@ -387,10 +392,10 @@ fn round_trips_over_both_versions() {
             let record = packed_as(version, &raw);
             let Ok(ship) = read(&record) else {
                 assert_eq!((version, lowest), (Version::One, Version::Two));
-                // Type 4 has no bit for it in version 1: it stands there as type A.
                 assert_eq!(read(&record), refused(3, 0));
                 continue;
             };
+            // The two bits of version 1 hold no 4: it stands there as type A.
             if version == Version::One && raw.kind == 4 {
                 assert_eq!(ship.kind, Kind::A);
                 continue;

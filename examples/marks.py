@@ -48,7 +48,7 @@ class WriteAnswer(Answer):
     _fields_ = [("bytes", u64)]
 
 
-# The number is the header's: with other structs than these the library has another.
+# The number is the header's: a library with other structs, calls or kinds has another.
 library = CDLL(str(Path(__file__).resolve().parent.parent / "target/lib/libloadline.so.3"))
 # ctypes takes what is not declared for a C int, so each call is declared.
 for call, result, arguments in (

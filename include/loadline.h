@@ -1,8 +1,8 @@
 /*
  * loadline.h: load-line marks that are proved.
  *
- * From a ship record of at most 91 bytes, of version 1 or 2: the six marks of the load-line Convention's Annex I with the 2003 amendments,
- * or one numbered refusal; the shortest poop for a wished summer mark; a reader and a writer of the record.
+ * From a ship record of at most 91 bytes, of version 1 or 2: the six marks of the load-line Convention's Annex I with the
+ * 2003 amendments, or one numbered refusal; the shortest poop for a wished summer mark; a reader and a writer of the record.
  *
  * For x86-64 Linux. Link libloadline.a, or libloadline.so; ./library makes both. They need memcpy and nothing else.
  * No call allocates, keeps state, prints or fails in any way but a numbered refusal. Any number of threads may call at
@@ -59,9 +59,9 @@
 #include <stddef.h>
 #include <stdint.h>
 
-/* Another number with every change of a struct, a call, or what a number of an answer may be. The shared library carries it in its own name, libloadline.so.N, so that
- * no program that was linked to one loads it for another. 2: every answer has an overlap.
- * 3: kinds 2 to 4, refusal 22. */
+/* Another number with every change of a struct, a call, or what a number of an answer may be. The shared library carries it
+ * in its own name, libloadline.so.N, so that no program that was linked to one loads it for another.
+ * 2: every answer has an overlap. 3: kinds 2 to 4, refusal 22. */
 #define LOADLINE_HEADER 3
 
 #ifdef __cplusplus
@@ -92,8 +92,8 @@ enum loadline_refusal {
     LOADLINE_LENGTH_FOR_TYPE = 22
 };
 
-/* What a ship's `kind` may be: its type, as regulation 27 has it. All but A are type B ships, and differ from one another in
- * the line that their marks are worked from and in the least freeboard alone.
+/* What a ship's `kind` may be: its type, as regulation 27 has it. All but A are type B ships, whose
+ * marks are worked alike, but for the line that they begin from and the least freeboard.
  *
  *   Type             The line                                                     Least S and T   Written in version
  *   A                table 28.1                                                   50 mm           1
@@ -109,8 +109,8 @@ enum loadline_kind {
     LOADLINE_TYPE_B_PORTABLE_COVERS = 4
 };
 
-/* A record has 27 + 8n bytes for n houses, in either version. To take one from a file, read up to LOADLINE_MOST_BYTES + 1 bytes: the one more
- * tells a longer file, which is refused, from a record. */
+/* A record has 27 + 8n bytes for n houses, in either version. To take one from a file, read up to LOADLINE_MOST_BYTES + 1
+ * bytes: the one more tells a longer file, which is refused, from a record. */
 enum { LOADLINE_LEAST_BYTES = 27, LOADLINE_MOST_BYTES = 91, LOADLINE_MOST_HOUSES = 8 };
 
 /* A house on the freeboard deck. Its ends are stations, in mm forward of the after perpendicular; abaft it they are
@@ -175,7 +175,8 @@ loadline_marks_answer loadline_marks(const uint8_t *record, size_t length);
 loadline_poop_answer loadline_shortest_poop(const uint8_t *record, size_t length, uint64_t height, uint64_t wish);
 
 /* The ship of a record of version 1 or 2. Writing it gives the same bytes back where the record is in the lowest version that
- * holds the ship, which is 1 for types A and B and 2 for the others; otherwise it gives a record of that version, which reads as the same ship.
+ * holds the ship, which is 1 for types A and B and 2 for the others; otherwise it gives a record of that version, which
+ * reads as the same ship.
  * Refuses 1 to 11, 18 and 22. */
 loadline_read_answer loadline_read(const uint8_t *record, size_t length);
 

@@ -316,9 +316,13 @@ fn place_of_22() {
         let flat = house(30_000, 30_000, 2_000);
         assert_eq!(check(&with(raw.clone(), &[flat])), refused(22, 0));
         assert_eq!(check(&with(raw.clone(), &[k2().houses[0]; 2])), refused(22, 0));
-        // 12 and 13.
-        let sinking = RawShip { depth: 1_000, displacement: 1, immersion: 1, ..raw };
-        assert_eq!(check(&sinking), refused(22, 0));
+        // Ships that 12 and 13 would take, as they do of type B.
+        let shallow = RawShip { depth: 1_000, ..raw.clone() };
+        let light = RawShip { depth: 30_000, displacement: 1_048_575, immersion: 1, ..raw };
+        for (ship_of, number) in [(shallow, 12), (light, 13)] {
+            assert_eq!(marks(&ship(&of(Kind::B, &ship_of))), refused(number, 0));
+            assert_eq!(check(&ship_of), refused(22, 0));
+        }
     }
     assert_eq!(check(&RawShip { kind: 2, length: 23_999, ..k1() }), refused(7, 1));
     assert_eq!(check(&RawShip { kind: 4, length: 365_001, ..k1() }), refused(7, 1));

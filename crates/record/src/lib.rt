@@ -1,6 +1,8 @@
 // The layout of the ship record, versions 1 and 2: a head, then the houses. Reader and writer take the width and the place of every field from here.
 ghost use mathlib.Core.Path.{_≡_};
 ghost use Prim.Native.Nat.{_*_, _≤_, _<_};
+ghost use lib.Dec.{eqb};
+ghost use Rattle.whole.specs.Pick.{pick};
 ghost use Rattle.units.specs.Datum.{datum, lift};
 ghost use Rattle.record.specs.Layout.{lastTypeIn, lowestFor, turn, bit};
 use ship::kind;
@@ -50,15 +52,22 @@ pub struct Head {
 }
 
 // ---- versions
+// One number in version 1, and another in every later one.
+fn by_version(version: u64, first: u64, later: u64) -> u64
+    ensures { λ r. ⌜ r ≡ pick (eqb version 1) first later ⌝ }
+{
+    if version == FIRST_VERSION {
+        first
+    } else {
+        later
+    }
+}
+
 // The last of the types that a version holds.
 pub fn last_type_in(version: u64) -> u64
     ensures { λ r. ⌜ r ≡ lastTypeIn version ⌝ }
 {
-    if version == FIRST_VERSION {
-        kind::B
-    } else {
-        LAST_TYPE
-    }
+    by_version(version, kind::B, LAST_TYPE)
 }
 
 // The lowest version that holds a ship of a type.

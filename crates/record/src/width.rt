@@ -2,7 +2,7 @@
 ghost use mathlib.Core.Path.{_≡_};
 ghost use Prim.Native.Nat.{_≤_};
 ghost use Rattle.record.specs.Layout.{kindBits, spareBits};
-use crate::FIRST_VERSION;
+use crate::by_version;
 
 // ---- the head
 pub const VERSION: u64 = 4;
@@ -50,19 +50,11 @@ pub const HOUSE_SPARE: u64 = 7;
 pub fn kind(version: u64) -> u64
     ensures { λ r. ⌜ (r ≡ kindBits version) × (r ≤ 3) ⌝ }
 {
-    if version == FIRST_VERSION {
-        KIND_IN_1
-    } else {
-        KIND
-    }
+    by_version(version, KIND_IN_1, KIND)
 }
 
 pub fn spare(version: u64) -> u64
     ensures { λ r. ⌜ (r ≡ spareBits version) × (r ≤ 6) ⌝ }
 {
-    if version == FIRST_VERSION {
-        SPARE_IN_1
-    } else {
-        SPARE
-    }
+    by_version(version, SPARE_IN_1, SPARE)
 }

@@ -1,4 +1,4 @@
-// Checks 7 to 11, 18 and 22 on a ship, and those of the houses on a list with L alone.
+// Checks 7 to 11, 18, 22 and 23 on a ship, and those of the houses on a list with L alone.
 ghost use mathlib.Core.Bool.{true};
 ghost use mathlib.Core.Path.{_≡_};
 ghost use Prim.Native.Nat.{_≤_};
@@ -37,7 +37,7 @@ fn first_breach(rule: Rule, l: Span, houses: [House; 8], n: usize) -> usize
     k
 }
 
-// Whether all of `n` houses keep the three: most lists do, and one pass shows it.
+// Whether all of `n` houses keep the four: most lists do, and one pass shows it.
 fn all_keep(l: Span, houses: [House; 8], n: usize) -> bool
     requires { ⌜ (l .0 ≤ 365000) × (n ≤ 8) ⌝ }
     ensures { λ r. ⌜ (r ≡ true → (rule : Rule) → firstBreach rule (l .0) (take n houses) ≡ n) ⌝ }
@@ -69,7 +69,7 @@ fn in_order(l: Span, houses: [House; 8], n: usize) -> Verdict
     Verdict::Accepted
 }
 
-// Checks 9 to 11 and 18 on the first `n` houses, each over all of them before the next.
+// Checks 9, 23, 10 and 11 or 18 on the first `n` houses, each over all of them before the next.
 pub fn of_houses(l: Span, houses: [House; 8], n: usize) -> Verdict
     requires { ⌜ (l .0 ≤ 365000) × (n ≤ 8) ⌝ }
     ensures { λ v. ⌜ paper v ≡ first (houseLines (l .0) (take n houses)) ⌝ }
@@ -78,14 +78,16 @@ pub fn of_houses(l: Span, houses: [House; 8], n: usize) -> Verdict
         return Verdict::Accepted;
     }
     let ends = first_breach(Rule::EndsAndHeight, l, houses, n);
+    let sides = first_breach(Rule::SetInSides, l, houses, n);
     let deck = first_breach(Rule::RaisedQuarterdeck, l, houses, n);
     let nine = refusal::line(ends < n, Refusal::HouseExtent(ends), Verdict::Accepted);
+    let sided = refusal::line(sides < n, Refusal::Breadths(sides), Verdict::Accepted);
     let ten = refusal::line(deck < n, Refusal::Quarterdeck(deck), Verdict::Accepted);
     let order = in_order(l, houses, n);
-    refusal::after(nine, refusal::after(ten, order))
+    refusal::after(nine, refusal::after(sided, refusal::after(ten, order)))
 }
 
-// Checks 7 to 11, 18 and 22. The houses' own can be worked only once L is known to be in its range.
+// Checks 7 to 11, 18, 22 and 23. The houses' own can be worked only once L is known to be in its range.
 pub fn of_ship(x: Ship) -> Verdict
     requires { ⌜ x .n ≤ 8 ⌝ }
     ensures { λ v. ⌜ paper v ≡ first (shipLines x) ⌝ }

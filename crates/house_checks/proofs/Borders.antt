@@ -1,6 +1,6 @@
 -- Two tests that follow from each other give the same answer; and checks 9 and 10 by such tests.
-use Prim.Native.Nat.{ℕ, _-_, _+_, _≤_, _<_}
-use mathlib.Core.Bool.{not, _&&_, _||_}
+use Prim.Native.Nat.{ℕ, _-_, _+_, _*_, _≤_, _<_}
+use mathlib.Core.Bool.{Bool, true, false, not, _&&_, _||_}
 use mathlib.Core.Path.{_≡_, refl}
 use native.Mathlib.Omega.{arith}
 use native.Mathlib.Decide.{decLt}
@@ -8,7 +8,7 @@ use lib.Dec.{ltb, leb}
 use borrow.Author.Tests.{lt-ltb, le-ltb, le-leb, lt-leb}
 use Rattle.units.specs.Datum.{stationOf}
 use Rattle.ship.specs.declared.House.{House}
-use Rattle.ship.specs.Checks.{badEnds, badQuarterdeck}
+use Rattle.ship.specs.Checks.{oneAlone, badEnds, badBreadths, badQuarterdeck}
 
 module _ (a b c d : ℕ) where
   pub lt-is-lt : (a < b → c < d) → (c < d → a < b) → ltb a b ≡ ltb c d
@@ -24,6 +24,26 @@ module _ (a b c d : ℕ) where
         | yes h ↦ rw (lt-ltb a b h, le-leb c d (f h)) refl
         | no h ↦ elim (decLt d c) [ yes k ↦ rw (le-ltb a b (omega arith), lt-leb c d k) refl | no k ↦ absurd (h (g (omega arith))) ]
       ]
+
+-- one of the last two of three tests is met, or neither
+or-either : (a b c : Bool) → (b || c) ≡ true → (a || b || c) ≡ true
+or-either true b c e = refl
+or-either false b c e = e
+
+or-neither : (a b c : Bool) → (b || c) ≡ false → (a || b || c) ≡ a
+or-neither true b c e = refl
+or-neither false b c e = e
+
+-- 23: a breadth beyond 16 bits is bad; within them the other tests decide
+module _ (h : House) where
+  abbrev pub otherwise : Bool
+  otherwise = oneAlone (h .breadth .0) (h .beam .0) || ltb (h .beam .0) (h .breadth .0) || ltb (25 * h .breadth .0) (23 * h .beam .0)
+
+  pub beyond : (ltb 65535 (h .breadth .0) || ltb 65535 (h .beam .0)) ≡ true → badBreadths h ≡ true
+  beyond e = or-either otherwise (ltb 65535 (h .breadth .0)) (ltb 65535 (h .beam .0)) e
+
+  pub within-bits : (ltb 65535 (h .breadth .0) || ltb 65535 (h .beam .0)) ≡ false → badBreadths h ≡ otherwise
+  within-bits e = or-neither otherwise (ltb 65535 (h .breadth .0)) (ltb 65535 (h .beam .0)) e
 
 -- 9 and 10 in lengths: the definitions set two stations beside each other, the code what lies between them
 module _ (l : ℕ) (h : House) where

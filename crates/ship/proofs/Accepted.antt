@@ -1,5 +1,5 @@
 -- What an accepted ship shows: each check that it passed, turned back into the fact that it tests.
-use Prim.Native.Nat.{ℕ, zero, suc, _+_, _-_, _≤_, _<_}
+use Prim.Native.Nat.{ℕ, zero, suc, _+_, _-_, _*_, _≤_, _<_}
 use mathlib.Core.Bool.{Bool, true, false, not, _||_, _&&_, Bool·beq, true≢false}
 use mathlib.Core.List.{List}
 use mathlib.Core.Path.{_≡_, refl, sym, ap, _∙_}
@@ -13,11 +13,11 @@ use Rattle.units.specs.Datum.{stationOf}
 use Rattle.ship.specs.declared.House.{House}
 use Rattle.ship.specs.declared.Ship.{Ship}
 use Rattle.ship.specs.declared.rule.Rule.{Rule}
-use Rattle.ship.specs.declared.rule.Rule.the-variants.{EndsAndHeight, RaisedQuarterdeck, Follows}
+use Rattle.ship.specs.declared.rule.Rule.the-variants.{EndsAndHeight, SetInSides, RaisedQuarterdeck, Follows}
 use Rattle.ship.specs.Vessel.{housesOf, houseAt}
 use Rattle.ship.specs.Refusals.{Paper, first}
 use Rattle.ship.specs.Kinds.{kindB60, kindB100, kindCovers}
-use Rattle.ship.specs.Checks.{least, most, outside, fieldsOf, fieldOut, reducedShort, coversLong, badEnds, badQuarterdeck, foreBefore, breaks, breachAt, firstBreach, houseLines, shipLines}
+use Rattle.ship.specs.Checks.{least, most, outside, fieldsOf, fieldOut, reducedShort, coversLong, oneAlone, badEnds, badBreadths, badQuarterdeck, foreBefore, breaks, breachAt, firstBreach, houseLines, shipLines}
 use Rattle.ship.specs.Good.{Good, GoodHouses}
 use Rattle.ship.proofs.First.{none-before}
 use Rattle.ship.proofs.Lines.{or-false, all-pass, first-passed}
@@ -29,7 +29,7 @@ in-range fields k h =
     let e = or-false (ltb (getD fields k 0) (getD least k 0)) (ltb (getD most k 0) (getD fields k 0)) (none-before (outside fields) 0 13 k (omega arith) h) in
     (ltb-false (getD fields k 0) (getD least k 0) (e .0), ltb-false (getD most k 0) (getD fields k 0) (e .1))
 
--- 9 to 11 and 18: a house before the first breach breaks no rule
+-- 9 to 11, 18 and 23: a house before the first breach breaks no rule
 pub obeys : (r : Rule) (l : ℕ) (hs : List House) → length hs ≤ firstBreach r l hs → (k : ℕ) → k < length hs → breaks r l (foreBefore hs k) (houseAt hs k) ≡ false
 unfolding firstBreach breachAt
 obeys r l hs h k g = none-before (breachAt r l hs) 0 (length hs) k (omega arith) (omega arith)
@@ -56,6 +56,16 @@ module _ (l : ℕ) (h : House) where
         ltb-false 8191 t (s .1),
       )
 
+  breadths-of : badBreadths h ≡ false → (h .breadth .0 ≤ h .beam .0) × (23 * h .beam .0 ≤ 25 * h .breadth .0) × (h .beam .0 ≤ 65535)
+  breadths-of e =
+      let b = h .breadth .0 in
+      let s = h .beam .0 in
+      let t = or-false (oneAlone b s || ltb s b || ltb (25 * b) (23 * s) || ltb 65535 b) (ltb 65535 s) e in
+      let u = or-false (oneAlone b s || ltb s b || ltb (25 * b) (23 * s)) (ltb 65535 b) (t .0) in
+      let v = or-false (oneAlone b s || ltb s b) (ltb (25 * b) (23 * s)) (u .0) in
+      let w = or-false (oneAlone b s) (ltb s b) (v .0) in
+      (ltb-false s b (w .1), ltb-false (25 * b) (23 * s) (v .1), ltb-false 65535 s (t .1))
+
   deck-of : badQuarterdeck l h ≡ false → h .quarterdeck ≡ true → (h .enclosed ≡ true) × (h .aft .0 ≤ stationOf 0) × (h .fore .0 < stationOf l)
   deck-of e q =
       let b : (not (h .enclosed) || ltb (stationOf 0) (h .aft .0) || leb (stationOf l) (h .fore .0)) ≡ false =
@@ -69,11 +79,13 @@ unfolding breaks
 good-houses l hs e =
     let p = all-pass (houseLines l hs) (omega arith) e in
     let ends = obeys EndsAndHeight l hs (ltb-false (firstBreach EndsAndHeight l hs) (length hs) (p .0)) in
-    let deck = obeys RaisedQuarterdeck l hs (ltb-false (firstBreach RaisedQuarterdeck l hs) (length hs) (p .1 .0)) in
-    let follows = obeys Follows l hs (ltb-false (firstBreach Follows l hs) (length hs) (p .1 .1 .1 .0)) in
+    let sides = obeys SetInSides l hs (ltb-false (firstBreach SetInSides l hs) (length hs) (p .1 .0)) in
+    let deck = obeys RaisedQuarterdeck l hs (ltb-false (firstBreach RaisedQuarterdeck l hs) (length hs) (p .1 .1 .0)) in
+    let follows = obeys Follows l hs (ltb-false (firstBreach Follows l hs) (length hs) (p .1 .1 .1 .1 .0)) in
     record {
       each = λ k h.
           let f = ends-of l (houseAt hs k) (ends k h) in
+          let b = breadths-of l (houseAt hs k) (sides k h) in
           record {
             ends = f .0;
             ahead = f .1;
@@ -82,6 +94,9 @@ good-houses l hs e =
             fore-most = f .4;
             height-least = f .5;
             height-most = f .6;
+            breadth-most = b .0;
+            breadth-least = b .1;
+            beam-most = b .2;
             quarterdeck = deck-of l (houseAt hs k) (deck k h);
           };
       order = λ k h.
@@ -98,7 +113,7 @@ later l hs g j (suc k) p q =
       | no t ↦ (let e : j ≡ k = omega arith in rw e o)
     ]
 
-certified-of : (a b : ℕ) → not (Bool·beq (eqb a 0) (eqb b 0)) ≡ false → (0 < a → 0 < b) × (0 < b → 0 < a)
+certified-of : (a b : ℕ) → oneAlone a b ≡ false → (0 < a → 0 < b) × (0 < b → 0 < a)
 certified-of a b e = go (eqb a 0) (eqb b 0) refl refl e
   where
     go : (p q : Bool) → eqb a 0 ≡ p → eqb b 0 ≡ q → not (Bool·beq p q) ≡ false → (0 < a → 0 < b) × (0 < b → 0 < a)

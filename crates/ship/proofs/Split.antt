@@ -14,7 +14,7 @@ use Rattle.whole.specs.Count.{count}
 use Rattle.whole.proofs.Count.{count-same, count-between}
 use Rattle.units.specs.Datum.{stationOf}
 use Rattle.ship.specs.declared.House.{House}
-use Rattle.ship.specs.declared.rule.Rule.the-variants.{EndsAndHeight, RaisedQuarterdeck, Follows}
+use Rattle.ship.specs.declared.rule.Rule.the-variants.{EndsAndHeight, SetInSides, RaisedQuarterdeck, Follows}
 use Rattle.ship.specs.declared.Ship.{Ship}
 use Rattle.ship.specs.Vessel.{housesOf, houseAt, standsOver}
 use Rattle.ship.specs.Refusals.{Paper, Line, refused, overlapping, first}
@@ -28,9 +28,9 @@ use Rattle.ship.proofs.Accepted.{obeys, ends-of, good-houses, later}
 abbrev pub joined : Paper → Paper
 joined p = refused (pick (eqb (p .number) 18) 11 (p .number)) (p .place)
 
--- 01's lines of 9 to 11
+-- 01's lines of 9 to 11, with 02's 23 in its place
 abbrev pub houseLines01 : ℕ → List House → List Line
-houseLines01 l hs = houseLine 9 EndsAndHeight l hs ∷ houseLine 10 RaisedQuarterdeck l hs ∷ houseLine 11 Follows l hs ∷ []
+houseLines01 l hs = houseLine 9 EndsAndHeight l hs ∷ houseLine 23 SetInSides l hs ∷ houseLine 10 RaisedQuarterdeck l hs ∷ houseLine 11 Follows l hs ∷ []
 
 abbrev pub shipLines01 : Ship → List Line
 shipLines01 x = fieldLines x ++ houseLines01 (x .length .0) (housesOf x)
@@ -175,7 +175,7 @@ module _ (l : ℕ) (hs : List House) where
       go true r = split-plain (t .1) (a .0)
       go false r = r
 
-  -- 9 to 11 and 18, before plain lines
+  -- 9 to 11, 18 and 23, before plain lines
   split-houses : (us : List Line) → Each Plain us → Split l hs (first (houseLines l hs ++ us)) (first (houseLines01 l hs ++ us))
   unfolding first pick
   split-houses us a = nine (ltb (firstBreach EndsAndHeight l hs) (length hs)) refl
@@ -188,9 +188,6 @@ module _ (l : ℕ) (hs : List House) where
 
       mm : ℕ
       mm = overlapBetween (houseAt hs (k - 1)) (houseAt hs k)
-
-      deck : Bool
-      deck = ltb (firstBreach RaisedQuarterdeck l hs) (length hs)
 
       order : (b c : Bool) → ltb (firstBreach EndsAndHeight l hs) (length hs) ≡ false → ltb k (length hs) ≡ b → late ≡ c
           → Split l hs (pick (b && c) (refused 18 k) (pick b (overlapping k mm) (first us))) (pick b (refused 11 k) (first us))
@@ -213,17 +210,15 @@ module _ (l : ℕ) (hs : List House) where
             none = λ n. absurd (n refl);
           }
 
-      ten : (b : Bool) → ltb (firstBreach EndsAndHeight l hs) (length hs) ≡ false
-          → Split l hs (pick b (refused 10 (firstBreach RaisedQuarterdeck l hs)) (first (orderLines l hs ++ us)))
-          (pick b (refused 10 (firstBreach RaisedQuarterdeck l hs)) (first (houseLine 11 Follows l hs ∷ us)))
-      ten true e = split-plain (refused 10 (firstBreach RaisedQuarterdeck l hs)) (λ z. omega arith, λ z. omega arith, refl)
-      ten false e = order (ltb k (length hs)) late e refl refl
+      -- 23 and 10 are plain, as 9 is; but only behind 9 are the houses known to end within L + 20000
+      behind : List Line
+      behind = houseLine 23 SetInSides l hs ∷ houseLine 10 RaisedQuarterdeck l hs ∷ []
 
       nine : (b : Bool) → ltb (firstBreach EndsAndHeight l hs) (length hs) ≡ b
-          → Split l hs (pick b (refused 9 (firstBreach EndsAndHeight l hs)) (first (houseLine 10 RaisedQuarterdeck l hs ∷ (orderLines l hs ++ us))))
-          (pick b (refused 9 (firstBreach EndsAndHeight l hs)) (first (houseLine 10 RaisedQuarterdeck l hs ∷ houseLine 11 Follows l hs ∷ us)))
+          → Split l hs (pick b (refused 9 (firstBreach EndsAndHeight l hs)) (first (behind ++ (orderLines l hs ++ us))))
+          (pick b (refused 9 (firstBreach EndsAndHeight l hs)) (first (behind ++ (houseLine 11 Follows l hs ∷ us))))
       nine true e = split-plain (refused 9 (firstBreach EndsAndHeight l hs)) (λ z. omega arith, λ z. omega arith, refl)
-      nine false e = ten deck e
+      nine false e = split-behind behind (orderLines l hs ++ us) (houseLine 11 Follows l hs ∷ us) (omega arith) (order (ltb k (length hs)) late e refl refl)
 
   -- what a call says where its lines accept: it accepts by the same lines as before
   pub same-zero : (new : Paper) → eqb (joined new .number) 0 ≡ eqb (new .number) 0

@@ -16,6 +16,8 @@ pub record ZeroHouse (h : House) : Type 0 where
   pub aft : mmOf (h .aft .0) ≡ pos 0
   pub fore : mmOf (h .fore .0) ≡ pos 0
   pub height : h .height .0 ≡ 0
+  pub breadth : h .breadth .0 ≡ 0
+  pub beam : h .beam .0 ≡ 0
 
 pub record Zero (x : Ship) : Type 0 where
   pub kind : x .kind ≡ 0
@@ -31,7 +33,7 @@ pub record Zero (x : Ship) : Type 0 where
   pub houses : (k : ℕ) → k < 8 → ZeroHouse (houseAt (x .houses) k)
 
 pub zero-house : ZeroHouse noHouse
-zero-house = record { enclosed = refl; quarterdeck = refl; aft = refl; fore = refl; height = refl }
+zero-house = record { enclosed = refl; quarterdeck = refl; aft = refl; fore = refl; height = refl; breadth = refl; beam = refl }
 
 -- six of one ordinate, which is of 0 mm
 level : (o : Ordinate) → sheerOf (o .0) ≡ pos 0 → (k : ℕ) → k < 6 → sheerOf (sheerAt (replicate 6 o) k) ≡ pos 0

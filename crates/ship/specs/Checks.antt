@@ -1,5 +1,5 @@
--- 01, "Refusals and their order", checks 7 to 11, with 02's 22 after 7 and its 18 beside 11; each over all houses before the next begins.
-use Prim.Native.Nat.{ℕ, zero, suc, _+_, _-_, min}
+-- 01, "Refusals and their order", checks 7 to 11, with 02's 22 after 7, its 23 after 9 and its 18 beside 11; each over all houses before the next begins.
+use Prim.Native.Nat.{ℕ, zero, suc, _+_, _-_, _*_, min}
 use mathlib.Core.Bool.{Bool, not, _&&_, _||_, Bool·beq}
 use mathlib.Core.List.{List, [], _∷_, _++_}
 use lib.Dec.{eqb, ltb, leb}
@@ -9,7 +9,7 @@ use Rattle.units.specs.Datum.{stationOf, lift, sheerAt}
 use Rattle.ship.specs.declared.House.{House}
 use Rattle.ship.specs.declared.Ship.{Ship}
 use Rattle.ship.specs.declared.rule.Rule.{Rule}
-use Rattle.ship.specs.declared.rule.Rule.the-variants.{EndsAndHeight, RaisedQuarterdeck, Follows}
+use Rattle.ship.specs.declared.rule.Rule.the-variants.{EndsAndHeight, SetInSides, RaisedQuarterdeck, Follows}
 use Rattle.ship.specs.Kinds.{kindB60, kindB100, kindCovers}
 use Rattle.ship.specs.Vessel.{housesOf, houseAt}
 use Rattle.ship.specs.Refusals.{Line, refused, overlapping}
@@ -55,9 +55,13 @@ coversLong kind l = eqb kind kindCovers && ltb 200000 l
 abbrev pub unfitLength : ℕ → ℕ → Bool
 unfitLength kind l = reducedShort kind l || coversLong kind l
 
+-- of two numbers one alone is zero
+abbrev pub oneAlone : ℕ → ℕ → Bool
+oneAlone a b = not (Bool·beq (eqb a 0) (eqb b 0))
+
 -- 8: one of fields 12, 13 zero and not the other
 abbrev pub halfCertified : Ship → Bool
-halfCertified x = not (Bool·beq (eqb (x .displacement) 0) (eqb (x .immersion) 0))
+halfCertified x = oneAlone (x .displacement) (x .immersion)
 
 -- 9: fore end not above aft end, fore end at or below 0, aft end at or above L, aft end below -20000, fore end above L+20000,
 -- height outside 1..8191
@@ -65,6 +69,13 @@ abbrev pub badEnds : ℕ → House → Bool
 badEnds l h =
     leb (h .fore .0) (h .aft .0) || leb (h .fore .0) (stationOf 0) || leb (stationOf l) (h .aft .0) || ltb (h .aft .0) (stationOf 0 - 20000)
     || ltb (stationOf (l + 20000)) (h .fore .0) || ltb (h .height .0) 1 || ltb 8191 (h .height .0)
+
+-- 23: one breadth alone zero, a house's breadth above the ship's, or more than 4 per cent of the ship's inside on a side: (Bs - b) / 2 > 0.04 Bs, which is
+-- 23 Bs > 25 b; and, of a ship that comes from no record, a breadth beyond 16 bits
+abbrev pub badBreadths : House → Bool
+badBreadths h =
+    oneAlone (h .breadth .0) (h .beam .0) || ltb (h .beam .0) (h .breadth .0) || ltb (25 * h .breadth .0) (23 * h .beam .0)
+    || ltb 65535 (h .breadth .0) || ltb 65535 (h .beam .0)
 
 -- 10: raised quarterdeck not enclosed, aft end above 0, or fore end at or above L
 abbrev pub badQuarterdeck : ℕ → House → Bool
@@ -82,6 +93,7 @@ beginsAbaft before h = ltb (h .aft .0) before
 -- whether a house breaks a rule; before is the fore end of the house before it
 unfoldable pub breaks : Rule → ℕ → ℕ → House → Bool
 breaks EndsAndHeight l before h = badEnds l h
+breaks SetInSides l before h = badBreadths h
 breaks RaisedQuarterdeck l before h = badQuarterdeck l h
 breaks Follows l before h = beginsAbaft before h
 
@@ -114,9 +126,9 @@ orderLines l hs =
     let k = firstBreach Follows l hs in
     orderLinesAt k (ltb k (length hs)) (houseAt hs (k - 1)) (houseAt hs k)
 
--- 9 to 11 and 18, on a list of houses and L alone
+-- 9 to 11, 18 and 23, on a list of houses and L alone
 abbrev pub houseLines : ℕ → List House → List Line
-houseLines l hs = houseLine 9 EndsAndHeight l hs ∷ houseLine 10 RaisedQuarterdeck l hs ∷ orderLines l hs
+houseLines l hs = houseLine 9 EndsAndHeight l hs ∷ houseLine 23 SetInSides l hs ∷ houseLine 10 RaisedQuarterdeck l hs ∷ orderLines l hs
 
 -- 7, 22 and 8, on a ship's fields and its type
 abbrev pub fieldLines : Ship → List Line
@@ -126,6 +138,6 @@ fieldLines x =
     ∷ (halfCertified x, refused 8 0)
     ∷ []
 
--- 7 to 11, 18 and 22, on a ship
+-- 7 to 11, 18, 22 and 23, on a ship
 abbrev pub shipLines : Ship → List Line
 shipLines x = fieldLines x ++ houseLines (x .length .0) (housesOf x)

@@ -1,5 +1,5 @@
 -- What the checks show of an accepted ship, in plain inequalities. The steps of the calculation require this and no more.
-use Prim.Native.Nat.{ℕ, _+_, _-_, _≤_, _<_}
+use Prim.Native.Nat.{ℕ, _+_, _-_, _*_, _≤_, _<_}
 use mathlib.Core.Bool.{true}
 use mathlib.Core.Path.{_≡_}
 use mathlib.Core.List.{List}
@@ -10,7 +10,7 @@ use Rattle.ship.specs.declared.Ship.{Ship}
 use Rattle.ship.specs.Kinds.{kindB60, kindB100, kindCovers}
 use Rattle.ship.specs.Vessel.{housesOf, houseAt}
 
--- a house that passes 9 and 10
+-- a house that passes 9, 10 and 23
 pub record GoodHouse (l : ℕ) (h : House) : Type 0 where
   pub ends : h .aft .0 < h .fore .0
   pub ahead : stationOf 0 < h .fore .0
@@ -19,14 +19,17 @@ pub record GoodHouse (l : ℕ) (h : House) : Type 0 where
   pub fore-most : h .fore .0 ≤ stationOf (l + 20000)
   pub height-least : 1 ≤ h .height .0
   pub height-most : h .height .0 ≤ 8191
+  pub breadth-most : h .breadth .0 ≤ h .beam .0
+  pub breadth-least : 23 * h .beam .0 ≤ 25 * h .breadth .0
+  pub beam-most : h .beam .0 ≤ 65535
   pub quarterdeck : h .quarterdeck ≡ true → (h .enclosed ≡ true) × (h .aft .0 ≤ stationOf 0) × (h .fore .0 < stationOf l)
 
--- a list that passes 9 to 11 and 18
+-- a list that passes 9 to 11, 18 and 23
 pub record GoodHouses (l : ℕ) (hs : List House) : Type 0 where
   pub each : (k : ℕ) → k < length hs → GoodHouse l (houseAt hs k)
   pub order : (k : ℕ) → k + 1 < length hs → houseAt hs k .fore .0 ≤ houseAt hs (k + 1) .aft .0
 
--- a ship that passes 7 to 11, 18 and 22
+-- a ship that passes 7 to 11, 18, 22 and 23
 pub record Good (x : Ship) : Type 0 where
   pub length-least : 24000 ≤ x .length .0
   pub length-most : x .length .0 ≤ 365000

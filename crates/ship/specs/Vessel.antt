@@ -1,9 +1,9 @@
--- 01, "Ship record": the empty house, the ship of zeros, where a house stands, and when two ships are equal.
+-- 01, "Ship record": the empty house, the ship of zeros, a house's breadths, where a house stands, and when two ships are equal.
 use Prim.Native.Nat.{ℕ, _+_, _-_}
 use mathlib.Core.List.{List, _++_}
 use mathlib.Core.Path.{_≡_}
 use mathlib.Core.Bool.{Bool, false, _&&_}
-use lib.Dec.{leb}
+use lib.Dec.{eqb, leb}
 use lib.ListN.{take, replicate, getD}
 use Rattle.units.specs.Datum.{datum, lift}
 use Rattle.ship.specs.declared.House.{House}
@@ -11,7 +11,15 @@ use Rattle.ship.specs.declared.Ship.{Ship}
 
 -- places beyond n read as zero
 abbrev pub noHouse : House
-noHouse = record { enclosed = false; quarterdeck = false; aft = record { 0 = datum }; fore = record { 0 = datum }; height = record { 0 = 0 } }
+noHouse = record {
+  enclosed = false;
+  quarterdeck = false;
+  aft = record { 0 = datum };
+  fore = record { 0 = datum };
+  height = record { 0 = 0 };
+  breadth = record { 0 = 0 };
+  beam = record { 0 = 0 };
+}
 
 -- beside a refusal the ship is all zero
 abbrev pub noShip : Ship
@@ -35,7 +43,11 @@ housesOf x = take (x .n) (x .houses)
 
 -- the house at place k. The logic wants a house for places past the end of a list too; no definition reads so far
 abbrev pub houseAt : List House → ℕ → House
-houseAt hs k = getD hs k (record { enclosed = false; quarterdeck = false; aft = record { 0 = 0 }; fore = record { 0 = 0 }; height = record { 0 = 0 } })
+houseAt hs k = getD hs k (record { enclosed = false; quarterdeck = false; aft = record { 0 = 0 }; fore = record { 0 = 0 }; height = record { 0 = 0 }; breadth = record { 0 = 0 }; beam = record { 0 = 0 } })
+
+-- 02 §6: two zeros mean full breadth
+abbrev pub fullBreadth : House → Bool
+fullBreadth h = eqb (h .breadth .0) 0 && eqb (h .beam .0) 0
 
 -- the millimetre from one station to the next lies in a house
 unfoldable pub standsOver : House → ℕ → Bool

@@ -1,6 +1,6 @@
 // The ship of a record: its fields, and up to eight houses kept by value.
 ghost use mathlib.Core.Path.{_≡_};
-ghost use Rattle.ship.specs.Vessel.{noHouse, noShip};
+ghost use Rattle.ship.specs.Vessel.{noHouse, noShip, fullBreadth};
 use units::AP;
 use units::LIFT;
 use units::Ordinate;
@@ -18,6 +18,9 @@ pub struct House {
     pub aft: Station,
     pub fore: Station,
     pub height: Span,
+    // Of set-in sides: the house's breadth and the ship's, both at the middle of the house; 0 and 0 for full breadth.
+    pub breadth: Span,
+    pub beam: Span,
 }
 
 // Fields 1 to 13 in the record's order, and the houses in order from aft, of which the first `n` count.
@@ -50,7 +53,16 @@ pub fn no_house() -> House
         aft: Station(AP),
         fore: Station(AP),
         height: Span(0),
+        breadth: Span(0),
+        beam: Span(0),
     }
+}
+
+// Whether a house has the ship's full breadth: its two breadths are 0.
+pub fn full_breadth(h: House) -> bool
+    ensures { λ r. ⌜ r ≡ fullBreadth h ⌝ }
+{
+    (h.breadth.0 == 0) & (h.beam.0 == 0)
 }
 
 // The ship beside a refusal, all zero to a caller: LIFT is the number of 0 mm of sheer.

@@ -26,6 +26,7 @@ pub enum Refusal {
     ShortBuffer,
     OutOfOrder(usize),
     LengthForType,
+    Breadths(usize),
 }
 
 pub enum Verdict {
@@ -93,6 +94,7 @@ pub fn told(r: Refusal) -> Paper
         Refusal::ShortBuffer => refused(17, 0),
         Refusal::OutOfOrder(k) => refused(18, k),
         Refusal::LengthForType => refused(22, 0),
+        Refusal::Breadths(k) => refused(23, k),
     }
 }
 

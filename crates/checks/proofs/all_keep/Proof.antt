@@ -1,4 +1,4 @@
--- As in `first_breach`, for the three rules at once: what is left to search gives the same first house as the whole.
+-- As in `first_breach`, for the four rules at once: what is left to search gives the same first house as the whole.
 use Prim.Native.Nat.{ℕ, _-_, _≤_, _<_}
 use mathlib.Core.Bool.{false, _||_, true≢false}
 use mathlib.Core.Path.{_≡_, refl, sym, _∙_}
@@ -10,7 +10,7 @@ use native.Mathlib.Omega.{arith}
 use borrow.Author.Needs.{needs}
 use Rattle.ship.specs.declared.House.{House}
 use Rattle.ship.specs.declared.rule.Rule.{Rule}
-use Rattle.ship.specs.declared.rule.Rule.the-variants.{EndsAndHeight, RaisedQuarterdeck, Follows}
+use Rattle.ship.specs.declared.rule.Rule.the-variants.{EndsAndHeight, SetInSides, RaisedQuarterdeck, Follows}
 use Rattle.ship.specs.Checks.{breaks, breachAt, foreBefore, firstBreach, firstFrom}
 use Rattle.ship.proofs.First.{first-pass, first-end}
 use Rattle.ship.proofs.Lines.{or-false}
@@ -25,12 +25,13 @@ Inv-loop l n houses reached₀ k₀ reached k =
 abbrev μ-loop : tie.MeasureT-loop
 μ-loop l n houses reached₀ k₀ reached k = n - k
 
--- a house that breaks none of the three keeps each
-each : (l before : ℕ) (h : House) → (breaks EndsAndHeight l before h || breaks RaisedQuarterdeck l before h || breaks Follows l before h) ≡ false → (r : Rule) → breaks r l before h ≡ false
+-- a house that breaks none of the four keeps each
+each : (l before : ℕ) (h : House) → (breaks EndsAndHeight l before h || breaks SetInSides l before h || breaks RaisedQuarterdeck l before h || breaks Follows l before h) ≡ false → (r : Rule) → breaks r l before h ≡ false
 each l before h e r =
-    let p = or-false (breaks EndsAndHeight l before h || breaks RaisedQuarterdeck l before h) (breaks Follows l before h) e in
-    let q = or-false (breaks EndsAndHeight l before h) (breaks RaisedQuarterdeck l before h) (p .0) in
-    elim r [ EndsAndHeight ↦ q .0 | RaisedQuarterdeck ↦ q .1 | Follows ↦ p .1 ]
+    let p = or-false (breaks EndsAndHeight l before h || breaks SetInSides l before h || breaks RaisedQuarterdeck l before h) (breaks Follows l before h) e in
+    let q = or-false (breaks EndsAndHeight l before h || breaks SetInSides l before h) (breaks RaisedQuarterdeck l before h) (p .0) in
+    let s = or-false (breaks EndsAndHeight l before h) (breaks SetInSides l before h) (q .0) in
+    elim r [ EndsAndHeight ↦ s .0 | SetInSides ↦ s .1 | RaisedQuarterdeck ↦ q .1 | Follows ↦ p .1 ]
 
 keeps : (c : tie.Else1 Inv-loop μ-loop) (r : Rule)
     → let l = c .before .before .before .before in

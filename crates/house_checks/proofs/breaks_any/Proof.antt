@@ -10,4 +10,5 @@ breaks-any-spec =
     (λ c κs. search needs)
     (λ c κs. search needs)
     (λ c κs. search needs)
-    (λ c. rw (c .house-breaks3 .ensures, c .before .house-breaks2 .ensures, c .before .before .house-breaks .ensures) refl))
+    (λ c κs. search needs)
+    (λ c. rw (c .house-breaks4 .ensures, c .before .house-breaks3 .ensures, c .before .before .house-breaks2 .ensures, c .before .before .before .house-breaks .ensures) refl))

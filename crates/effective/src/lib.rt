@@ -1,11 +1,11 @@
-// The standard height of a house (33), the ratio of its height to that, and its effective length (35), which is its length, limited, in that ratio. Both are
-// fractions, which nothing here rounds.
+// The standard height of a house (33), the ratio of its height to that, the ratio of its breadth to the ship's, and its effective length (35), which is its
+// length, limited, in both ratios. All are fractions, which nothing here rounds.
 ghost use mathlib.Core.Path.{_≡_};
 ghost use Prim.Native.Nat.{_*_, _≤_, _<_};
 ghost use Rattle.whole.specs.Frac.{frac, _≈f_};
 ghost use Rattle.houses.specs.Height as Height;
-ghost use Rattle.houses.specs.Effective.{limitedLength, exactEffective};
-ghost use Rattle.effective.specs.Unrounded.{standardOf, Sized, ratioOf, FairRatio, unroundedOf, FairLength};
+ghost use Rattle.houses.specs.Effective.{limitedLength, breadthRatio, exactEffective};
+ghost use Rattle.effective.specs.Unrounded.{standardOf, rising as risingFrom, lowOrdinary, lowRaised, lowHeight, Sized, ratioOf, FairRatio, breadthsOf, FairBreadths, unroundedOf, FairLength};
 use ship::House;
 use units::Effective;
 use units::Ratio;
@@ -19,49 +19,50 @@ pub struct Standard {
     pub per: u64,
 }
 
-// Linear from v at L = a to w at L = b.
-fn linear(a: u64, v: u64, b: u64, w: u64, l: u64) -> Standard
-    requires { ⌜ (a < b) × (b ≤ 125000) × (v ≤ w) × (w ≤ 2300) × (a ≤ l) × (l ≤ b) ⌝ }
-    ensures { λ r. ⌜ r ≡ standardOf (Height.linear a v b w l) ⌝ }
+// v at L = a, and from there r mm more for every s mm of L.
+fn rising(a: u64, v: u64, r: u64, s: u64, l: u64) -> Standard
+    requires { ⌜ (v ≤ 2300) × (r ≤ 3) × (1 ≤ s) × (s ≤ 250) × (a ≤ l) × (l ≤ 125000) ⌝ }
+    ensures { λ h. ⌜ h ≡ standardOf (risingFrom a v r s l) ⌝ }
 {
     Standard {
-        size: v * (b - a) + (w - v) * (l - a),
-        per: b - a,
+        size: v * s + r * (l - a),
+        per: s,
     }
 }
 
 // 33: the standard height of a house that is no raised quarterdeck.
 fn ordinary_height(l: u64) -> Standard
-    ensures { λ r. ⌜ r ≡ standardOf (Height.ordinaryHeight l) ⌝ }
+    ensures { λ r. ⌜ r ≡ standardOf (lowOrdinary l) ⌝ }
 {
     if l <= 75000 {
         return Standard { size: 1800, per: 1 };
     }
     if l < 125000 {
-        return linear(75000, 1800, 125000, 2300, l);
+        return rising(75000, 1800, 1, 100, l);
     }
     Standard { size: 2300, per: 1 }
 }
 
 // 33: the standard height of a raised quarterdeck.
 fn raised_height(l: u64) -> Standard
-    ensures { λ r. ⌜ r ≡ standardOf (Height.raisedHeight l) ⌝ }
+    ensures { λ r. ⌜ r ≡ standardOf (lowRaised l) ⌝ }
 {
     if l <= 30000 {
         return Standard { size: 900, per: 1 };
     }
     if l <= 75000 {
-        return linear(30000, 900, 75000, 1200, l);
+        return rising(30000, 900, 1, 150, l);
     }
     if l < 125000 {
-        return linear(75000, 1200, 125000, 1800, l);
+        return rising(75000, 1200, 3, 250, l);
     }
     Standard { size: 1800, per: 1 }
 }
 
 // 33: the standard height of a house.
 pub fn standard_height(l: Span, quarterdeck: bool) -> Standard
-    ensures { λ r. ⌜ r ≡ standardOf (Height.standardHeight (l .0) quarterdeck) ⌝ }
+    ensures { λ r. ⌜ frac (r .size) (r .per) ≈f Height.standardHeight (l .0) quarterdeck ⌝ }
+    ensures { λ r. ⌜ r ≡ standardOf (lowHeight (l .0) quarterdeck) ⌝ }
     ensures { λ r. ⌜ Sized r ⌝ }
 {
     if quarterdeck {
@@ -100,19 +101,34 @@ pub fn height_ratio(l: Span, h: House) -> Ratio
     }
 }
 
-// 35: the effective length of a house with that ratio, over the numerator of its standard height. All ordinary houses have the same one, so their numerators
-// can be added.
+// 35: the ratio of a house's breadth to the ship's, 1 for full breadth.
+fn breadth_ratio(h: House) -> Ratio
+    ensures { λ r. ⌜ frac (r .top) (r .bottom) ≈f breadthRatio h ⌝ }
+    ensures { λ r. ⌜ r ≡ breadthsOf h ⌝ }
+{
+    if ship::full_breadth(h) {
+        return Ratio { top: 1, bottom: 1 };
+    }
+    Ratio {
+        top: h.breadth.0,
+        bottom: h.beam.0,
+    }
+}
+
+// 35: the effective length of a house with that ratio of heights. All ordinary houses of full breadth have the same denominator, the numerator of their standard
+// height, so their numerators can be added.
 pub fn effective_of(l: Span, h: House, ratio: Ratio) -> Unrounded
-    requires { ⌜ (l .0 ≤ 365000) × (ratio ≡ ratioOf (l .0) h) ⌝ }
+    requires { ⌜ (l .0 ≤ 365000) × (ratio ≡ ratioOf (l .0) h) × FairBreadths h ⌝ }
     ensures { λ r. ⌜ frac (r .top) (r .bottom) ≈f exactEffective (l .0) h ⌝ }
     ensures { λ r. ⌜ r ≡ unroundedOf (l .0) h ⌝ }
     ensures { λ r. ⌜ FairLength r ⌝ }
 {
     let length = limited_length(l, h);
-    let top = ratio.top;
-    let bottom = ratio.bottom;
+    let breadths = breadth_ratio(h);
+    let height = ratio.top;
+    let standard = ratio.bottom;
     Unrounded {
-        top: length.0 * top,
-        bottom,
+        top: length.0 * height * breadths.top,
+        bottom: standard * breadths.bottom,
     }
 }

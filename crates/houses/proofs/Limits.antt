@@ -1,20 +1,21 @@
 -- Bounds of the amounts of one house, and of E by S (34, 35).
 use mathlib.Core.Path.{_≡_}
-use mathlib.Core.Bool.{Bool}
+use mathlib.Core.Bool.{Bool, true, false}
 use mathlib.Core.List.{List, [], _∷_}
-use Prim.Native.Nat.{ℕ, _*_, _≤_, _<_, min}
+use Prim.Native.Nat.{ℕ, suc, _*_, _≤_, _<_, min}
+use lib.ListN.{length}
 use native.Mathlib.Omega.{arith}
 use native.Mathlib.Nat.{mul-one, zero-mul, zero-min, mul-pos, min-le-right, min-eq-left, min-eq-right}
 use borrow.Author.Tests.{ltb-true, ltb-false}
 use Rattle.whole.specs.Pick.{pick}
-use Rattle.whole.proofs.Pick.{by-cases}
+use Rattle.whole.proofs.Pick.{by-cases, pick-true, pick-false}
 use Rattle.whole.specs.Frac.{Frac, _≤f_, _≈f_, _<f?_, whole, frac, minf, _÷f_}
-use Rattle.whole.proofs.Frac.{bot-of, same, refl≤, sym≈, trans≈, trans≤, +-mono≤, *-mono≤}
+use Rattle.whole.proofs.Frac.{bot-of, same, refl≤, refl≈, sym≈, trans≈, trans≤, +-mono≤, *-mono≤, min-same, ÷-same}
 use Rattle.ship.specs.declared.House.{House}
-use Rattle.ship.specs.Vessel.{noHouse}
+use Rattle.ship.specs.Vessel.{noHouse, fullBreadth, houseAt}
 use Rattle.houses.specs.Length.{partOf, total, coveredLength}
 use Rattle.houses.specs.Height.{ordinaryHeight, raisedHeight, standardHeight, heightRatio}
-use Rattle.houses.specs.Effective.{limitedLength, exactEffective, exactEffectiveLength}
+use Rattle.houses.specs.Effective.{limitedLength, breadthRatio, exactEffective, exactEffectiveLength}
 
 pub part-most : (l : ℕ) (h : House) → partOf l h ≤ l
 unfolding partOf
@@ -59,14 +60,29 @@ module _ (h : ℕ) (s : Frac) (a : 0 < s .top) where
 pub standard-some : (l : ℕ) (quarterdeck : Bool) → 0 < standardHeight l quarterdeck .top
 standard-some l quarterdeck = omega (arith, standard-least l quarterdeck, standardHeight l quarterdeck .pos)
 
+-- ---- a house's breadth by the ship's
+pub breadth-most : (h : House) → h .breadth .0 ≤ h .beam .0 → breadthRatio h ≤f whole 1
+unfolding breadthRatio
+breadth-most h p = by-cases (λ (x : Frac). x ≤f whole 1) (fullBreadth h) _ _ (λ t. omega arith) (λ t. omega arith)
+
+pub breadth-full : (h : House) → fullBreadth h ≡ true → breadthRatio h ≡ whole 1
+unfolding breadthRatio
+breadth-full h e = pick-true (fullBreadth h) _ _ e
+
+pub breadth-set-in : (h : House) → fullBreadth h ≡ false → breadthRatio h ≡ frac (h .breadth .0) (h .beam .0)
+unfolding breadthRatio
+breadth-set-in h e = pick-false (fullBreadth h) _ _ e
+
 -- ---- a house's height by its standard height
 module _ (l : ℕ) (h : House) where
   abbrev standard : Frac
   standard = standardHeight l (h .quarterdeck)
 
-  pub ratio-over : frac (min (h .height .0 * standard .bot) (standard .top)) (standard .top) ≈f heightRatio l h
+  -- however that is written
+  pub ratio-over : (s : Frac) → 0 < s .top → s ≈f standard → frac (min (h .height .0 * s .bot) (s .top)) (s .top) ≈f heightRatio l h
   unfolding heightRatio
-  ratio-over = over-standard (h .height .0) standard (standard-some l (h .quarterdeck))
+  ratio-over s a e =
+      trans≈ (over-standard (h .height .0) s a) (÷-same a (standard-some l (h .quarterdeck)) (min-same (refl≈ (whole (h .height .0))) e) e)
 
   pub ratio-most : heightRatio l h ≤f whole 1
   unfolding heightRatio
@@ -77,16 +93,18 @@ module _ (l : ℕ) (h : House) where
   unfolding heightRatio
   ratio-if-lower = if-lower (h .height .0) standard (standard-some l (h .quarterdeck))
 
-  pub exact-most : exactEffective l h ≤f whole (limitedLength l h)
+  -- a house no broader than the ship
+  pub exact-most : h .breadth .0 ≤ h .beam .0 → exactEffective l h ≤f whole (limitedLength l h)
   unfolding exactEffective
-  exact-most = trans≤ (*-mono≤ (refl≤ (whole (limitedLength l h))) ratio-most) (omega arith)
+  exact-most p = trans≤ (*-mono≤ (*-mono≤ (refl≤ (whole (limitedLength l h))) ratio-most) (breadth-most h p)) (omega arith)
 
 -- E, exact, is at most 1000 S, and so at most 1000 L
-pub exact-by-covered : (l : ℕ) (hs : List House) → exactEffectiveLength l hs ≤f whole (1000 * coveredLength l hs)
+pub exact-by-covered : (l : ℕ) (hs : List House) → ((k : ℕ) → k < length hs → houseAt hs k .breadth .0 ≤ houseAt hs k .beam .0)
+    → exactEffectiveLength l hs ≤f whole (1000 * coveredLength l hs)
 unfolding exactEffectiveLength coveredLength total
-exact-by-covered l [] = omega arith
-exact-by-covered l (h ∷ hs) =
-    trans≤ (+-mono≤ (exact-most l h) (exact-by-covered l hs)) (omega (arith, limited-most l h))
+exact-by-covered l [] p = omega arith
+exact-by-covered l (h ∷ hs) p =
+    trans≤ (+-mono≤ (exact-most l h (p 0 (omega arith))) (exact-by-covered l hs (λ k q. p (suc k) (omega arith)))) (omega (arith, limited-most l h))
 
 -- an empty house has no length
 pub no-part : (l : ℕ) → partOf l noHouse ≡ 0

@@ -2,12 +2,12 @@ use borrow.Author.Needs.{needs}
 use borrow.Author.Tests.{lt-ltb, le-ltb, le-leb, lt-leb}
 use mathlib.Core.Path.{refl}
 use Rattle.whole.specs.Pick.{pick}
-use Rattle.houses.specs.Height.{ordinaryHeight}
+use Rattle.effective.specs.Unrounded.{lowOrdinary}
 use Rattle.effective.proofs.ordinary_height.Statement.{statement}
 use Rattle.effective.proofs.ordinary_height.Tie as tie
 
 pub ordinary-height-spec : {M : Type 1} → statement M
-unfolding pick ordinaryHeight
+unfolding pick lowOrdinary
 ordinary-height-spec =
     tie.close
     (tie.spec
@@ -15,5 +15,5 @@ ordinary-height-spec =
     (λ c κs. search needs)
     (λ c.
     let e = c .before in
-    rw (lt-leb _ _ (e .before .if1 .left), lt-ltb _ _ (e .if2 .taken)) (c .linear .ensures))
+    rw (lt-leb _ _ (e .before .if1 .left), lt-ltb _ _ (e .if2 .taken)) (c .rising .ensures))
     (λ c. rw (lt-leb _ _ (c .before .if1 .left), le-ltb _ _ (c .if2 .left)) refl))

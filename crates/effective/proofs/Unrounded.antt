@@ -106,6 +106,10 @@ bottom-full l h e = ap (λ (r : Ratio). lowHeight l (h .quarterdeck) .top * r .b
 
 -- ---- room
 module _ (l : ℕ) (h : House) (f : FairBreadths h) where
+  pub bottom-some : 0 < bottomOf l h
+  unfolding bottomOf
+  bottom-some = mul-pos (low-sized l (h .quarterdeck) .size-least) (fair-breadths h f .1)
+
   pub top-most : topOf l h ≤ 1000 * partOf l h * bottomOf l h
   unfolding topOf bottomOf
   top-most =
@@ -123,6 +127,6 @@ module _ (l : ℕ) (h : House) (f : FairBreadths h) where
       let m = mul-most (1000 * partOf l h) (bottomOf l h) greatestLength (bottomOf l h) (omega (arith, part-most l h)) (omega arith) in
       record {
         top-most = omega (arith, top-most, m);
-        bottom-least = mul-pos (s .size-least) (b .1);
+        bottom-least = bottom-some;
         bottom-most = mul-most (lowHeight l (h .quarterdeck) .top) (breadthsOf h .bottom) greatestSize greatestBreadth (s .size-most) (b .2);
       }

@@ -1,9 +1,8 @@
 use mathlib.Core.Path.{refl}
-use Prim.Native.Nat.{_*_, _≤_}
 use native.Mathlib.Omega.{arith}
-use native.Mathlib.Nat.{mul-le-mul-left}
 use borrow.Author.Needs.{needs}
 use Rattle.whole.proofs.Divide.{floor-most}
+use Rattle.effective.specs.Unrounded.{greatestLength}
 use Rattle.summed.proofs.rounded.Statement.{statement}
 use Rattle.summed.proofs.rounded.Tie as tie
 
@@ -11,9 +10,9 @@ pub rounded-spec : {M : Type 1} → statement M
 rounded-spec =
     tie.close
     (tie.spec
-    (λ c. let s = c .before .args .s in (omega (arith, floor-most (s .top) (s .bottom) 0 (omega arith)), omega arith))
+    (λ c. let e = c .before .args .e in (omega (arith, floor-most (e .top) (e .bottom) 0 (omega arith)), omega arith))
     (λ c. search needs)
     (λ c.
-    let s = c .before .before .args .s in
-    let h : s .top * 1 ≤ s .top * s .bottom = mul-le-mul-left (s .top) (omega arith) in
-    (refl, omega (arith, floor-most (s .top) (s .bottom) (s .top) (omega arith)))))
+    let s = c .before .before in
+    let e = s .args .e in
+    (refl, floor-most (e .top) (e .bottom) greatestLength (omega (arith, s .pre .top-most)))))

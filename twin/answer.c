@@ -6,7 +6,7 @@
 
 #include "loadline.h"
 
-enum { ROOM = 128, GUARD = 16, BATCH = 256 };
+enum { ROOM = 160, GUARD = 16, BATCH = 256 };
 
 /* The part that is lent begins after the guard; all the rest must stay as it was. */
 typedef struct {
@@ -33,7 +33,7 @@ typedef struct {
     uint8_t record[ROOM]; /* as the calls left it */
 } answer;
 
-_Static_assert(sizeof(request) == 768 && sizeof(answer) == 1080, "no padding");
+_Static_assert(sizeof(request) == 960 && sizeof(answer) == 1304, "no padding");
 
 static request requests[BATCH];
 static answer answers[BATCH];

@@ -190,10 +190,18 @@ fn ratio_of_heights(house: &House, l: &Fraction) -> Fraction {
     (whole(house.height) / linear(l, &points)).min(whole(1))
 }
 
+/// 35(2): the house's breadth over the ship's, 1 for full breadth.
+fn ratio_of_breadths(house: &House) -> Fraction {
+    match house.has_full_breadth() {
+        true => whole(1),
+        false => over(house.breadth, house.beam.into()),
+    }
+}
+
 /// 35: effective length, m.
 fn effective_length(house: &House, l: &Fraction) -> Fraction {
     let length = plain_length(house, l);
-    let ratio = ratio_of_heights(house, l);
+    let ratio = ratio_of_heights(house, l) * ratio_of_breadths(house);
     match house.quarterdeck {
         true => length.min(over(6, 10) * l) * ratio,
         false => length * ratio,

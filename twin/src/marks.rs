@@ -168,7 +168,8 @@ pub fn standard_height(quarterdeck: bool, length: i64) -> (i64, i64) {
     }
 }
 
-/// Regulation 35: effective length of a house, um, as a fraction over its standard height.
+/// Regulation 35: effective length of a house, um, as a fraction over its standard height, and if it
+/// has breadths over the ship's breadth too.
 fn effective_length(house: &House, length: i64) -> (i64, i64) {
     let mut whole = 1000 * length_within(house, length);
     if house.quarterdeck {
@@ -176,18 +177,30 @@ fn effective_length(house: &House, length: i64) -> (i64, i64) {
     }
     let (standard, parts) = standard_height(house.quarterdeck, length);
     let height = house.height as i64 * parts;
-    (whole * height.min(standard), standard)
+    let um = whole * height.min(standard);
+    if house.has_full_breadth() {
+        return (um, standard);
+    }
+    // 35(2). Greatest for a quarterdeck of 75 m at 125 m: 7.5e7 x 4.5e5 x 6.6e4, below 2.3e18.
+    (um * house.breadth as i64, standard * house.beam as i64)
 }
 
-/// E: ordinary houses are added first and rounded down once, a raised quarterdeck by itself.
+/// E: ordinary houses are added first and rounded down once, a raised quarterdeck by itself; so is
+/// every house with breadths.
 fn effective_sum(ship: &Ship, length: i64) -> i64 {
-    let part = |quarterdeck: bool| {
-        let alike = enclosed(ship).filter(|(_, house)| house.quarterdeck == quarterdeck);
+    let full = |quarterdeck: bool| {
+        let alike = enclosed(ship)
+            .filter(|(_, house)| house.has_full_breadth() && house.quarterdeck == quarterdeck);
         let sum = alike.map(|(_, house)| effective_length(house, length).0).sum();
         // They share one standard height.
         down(sum, standard_height(quarterdeck, length).0)
     };
-    part(false) + part(true)
+    let set_in: i64 = enclosed(ship)
+        .filter(|(_, house)| !house.has_full_breadth())
+        .map(|(_, house)| effective_length(house, length))
+        .map(|(um, parts)| down(um, parts))
+        .sum();
+    full(false) + full(true) + set_in
 }
 
 /// Regulation 40(2) and (4): the least summer and tropical mark, mm.
@@ -304,8 +317,8 @@ fn deduction_share(length: i64, effective: i64) -> i64 {
 fn houses_deduction(ship: &Ship, length: i64, effective: i64, forecastle: Option<usize>) -> i64 {
     // 37(3), on the fraction itself.
     let long_enough = forecastle.is_some_and(|place| {
-        let (um, standard) = effective_length(&ship.houses[place], length);
-        um >= 70 * length * standard
+        let (um, parts) = effective_length(&ship.houses[place], length);
+        um >= 70 * length * parts
     });
     if ship.kind.is_a() || long_enough {
         down(full_deduction(length) * deduction_share(length, effective), 1_000_000)

@@ -4,7 +4,7 @@ use crate::marks;
 use crate::record::{self, House, Ship, MAX_HOUSES};
 use crate::refusal::Refusal;
 
-/// The shortest poop in dm, from a record: refusals 1 to 11, 18 and 22, then 14, 15, 16.
+/// The shortest poop in dm, from a record: refusals 1 to 11, 18, 22 and 23, then 14, 15, 16.
 pub fn shortest_poop(bytes: &[u8], height: u64, wish: u64) -> Result<i64, Refusal> {
     shortest_poop_of(&record::read(bytes)?, height, wish)
 }
@@ -31,7 +31,7 @@ pub fn shortest_poop_of(ship: &Ship, height: u64, wish: u64) -> Result<i64, Refu
         .ok_or(Refusal::at(Refusal::NOTHING_FITS, 0))
 }
 
-/// The summer mark with a poop of k dm before the other houses, or one of refusals 9 to 13 and 18.
+/// The summer mark with a poop of k dm before the other houses, or one of refusals 9 to 13, 18 and 23.
 pub fn summer_with_poop(ship: &Ship, height: u64, k: i64) -> Result<i64, Refusal> {
     match k {
         0 => summer(ship),
@@ -39,8 +39,9 @@ pub fn summer_with_poop(ship: &Ship, height: u64, k: i64) -> Result<i64, Refusal
     }
 }
 
+/// The poop has full breadth.
 fn with_poop(ship: &Ship, height: u64, k: i64) -> Ship {
-    let poop = House { enclosed: true, quarterdeck: false, aft: 0, fore: 100 * k, height };
+    let poop = House { enclosed: true, fore: 100 * k, height, ..House::default() };
     Ship { houses: ship.houses.after(poop), ..ship.clone() }
 }
 

@@ -36,13 +36,75 @@ impl Random {
     }
 
     /// A valid ship of any of the five types with `n` houses. One in three is a low one, one in eight
-    /// has its mark about the floor.
+    /// has its mark about the floor; one in three of all has houses that are set in.
     pub fn any_ship(&mut self, n: usize) -> RawShip {
         let kind = self.kind();
-        match self.between(1, 24) {
-            1..=3 => self.ship_at_floor(kind, n),
+        let mut raw = match self.between(1, 24) {
+            // Its mark is what it is by its houses: they have their breadths before.
+            1..=3 => return self.ship_at_floor(kind, n),
             4..=11 => self.low_ship_of(Some(kind), n),
             _ => self.ship_of(kind, n),
+        };
+        self.set_in_at_times(&mut raw.houses[..n]);
+        raw
+    }
+
+    /// Sets houses in, one time in three.
+    pub fn set_in_at_times(&mut self, houses: &mut [House]) {
+        if self.once_in(3) {
+            self.set_in(houses);
+        }
+    }
+
+    /// Gives breadths to all, half or few of the houses.
+    pub fn set_in(&mut self, houses: &mut [House]) {
+        let share = self.pick(&[1, 2, 4]);
+        for house in houses {
+            if self.once_in(share) {
+                (house.breadth, house.beam) = self.breadths();
+            }
+        }
+    }
+
+    /// The breadth of a house and the ship's, which refusal 23 lets pass: often as little as can be,
+    /// or equal.
+    pub fn breadths(&mut self) -> (u64, u64) {
+        let beam = self.beam();
+        let least = least_breadth(beam);
+        let breadth = match self.between(1, 8) {
+            1 | 2 => beam,
+            3 | 4 => least,
+            5 => (least + 1).min(beam),
+            6 => (beam - 1).max(least),
+            _ => self.between(least, beam),
+        };
+        (breadth as u64, beam as u64)
+    }
+
+    /// The same of 16 bits that it takes, often by as little as can be.
+    pub fn bad_breadths(&mut self) -> (u64, u64) {
+        // There is a greater one.
+        let beam = self.beam().min(65_534);
+        let least = least_breadth(beam);
+        let (breadth, beam) = match self.between(1, 8) {
+            1 => (0, beam),
+            2 => (beam, 0),
+            3 => (self.between(1, 65_535), 0),
+            4 => (beam + 1, beam),
+            5 => (self.between(beam + 1, 65_535), beam),
+            6 => (self.between(0, least - 1), beam),
+            _ => (least - 1, beam),
+        };
+        (breadth as u64, beam as u64)
+    }
+
+    /// A breadth of the ship: any, small or great, or one of which 0.92 is whole.
+    fn beam(&mut self) -> i64 {
+        match self.between(1, 8) {
+            1 => self.between(1, 40),
+            2 => self.between(65_500, 65_535),
+            3 | 4 => 25 * self.between(1, 2_621),
+            _ => self.between(2_000, 60_000),
         }
     }
 
@@ -125,6 +187,7 @@ impl Random {
             self.lower_bow(&mut raw);
             raw.cb = self.between(6_000, 7_500) as u64;
             self.put_long_houses(&mut raw.houses[..n], length);
+            self.set_in_at_times(&mut raw.houses[..n]);
             let floor = self.pick(&[50, 150]) + self.between(-2, 2);
             if let Some(depth) = self.depth_for(&raw, floor) {
                 raw.depth = depth;
@@ -322,7 +385,7 @@ impl Random {
             3 => self.between(1, standard),
             _ => self.between(standard / 2, standard * 5 / 4),
         };
-        House { enclosed, quarterdeck, aft, fore, height: height as u64 }
+        House { enclosed, quarterdeck, aft, fore, height: height as u64, ..House::default() }
     }
 
     /// Houses in order between two stations; some touch, some stand at one of them.
@@ -391,7 +454,8 @@ impl Random {
         let fore = fore.clamp((aft + 1).max(1), length + 20_000);
         let enclosed = !self.once_in(3);
         let quarterdeck = enclosed && aft <= 0 && fore < length && self.once_in(2);
-        House { enclosed, quarterdeck, aft, fore, height: self.between(1, 8_191) as u64 }
+        let height = self.between(1, 8_191) as u64;
+        House { enclosed, quarterdeck, aft, fore, height, ..House::default() }
     }
 
     /// Ends before these, or touching.
@@ -421,17 +485,23 @@ impl Random {
         (aft, fore)
     }
 
-    /// Changes one of the houses so that refusal 9 or 10 takes it, most often with its ends as they
+    /// Changes one of the houses so that refusal 9, 10 or 23 takes it, most often with its ends as they
     /// were.
     pub fn spoil(&mut self, houses: &mut [House], length: i64) {
         let place = self.between(0, houses.len() as i64 - 1) as usize;
         let house = &mut houses[place];
-        match self.between(1, 6) {
+        match self.between(1, 9) {
             1 | 2 => house.height = 0,
             3 => house.fore = house.aft,
             4 => house.fore = length + 20_001,
             5 => (house.quarterdeck, house.fore) = (true, length),
-            _ => (house.quarterdeck, house.enclosed) = (true, false),
+            6 | 7 => (house.quarterdeck, house.enclosed) = (true, false),
+            _ => (house.breadth, house.beam) = self.bad_breadths(),
         }
     }
+}
+
+/// The least breadth of a house that refusal 23 lets pass: 0.92 of the ship's, up.
+fn least_breadth(beam: i64) -> i64 {
+    (23 * beam + 24) / 25
 }

@@ -1,5 +1,6 @@
-//! The ship record, versions 1 and 2: 27 bytes, then 8 for each house, bit-packed. The versions differ
-//! in the header's first two bytes alone: version 2 has one more bit for the type and one fewer spare.
+//! The ship record, versions 1 to 3: 27 bytes, then 8 for each house, in version 3 12, bit-packed.
+//! Versions 2 and 3 have one more bit for the type in the header's first two bytes and one fewer spare.
+//! Version 3 has two breadths behind each house's eight bytes; in the others every house has full breadth.
 
 use std::ops::{Deref, DerefMut};
 
@@ -11,7 +12,13 @@ pub const MAX_HOUSES: usize = 8;
 /// Version, type, number of houses and spare bits.
 const HEAD_BITS: usize = 16;
 pub const HEADER_BYTES: usize = 27;
+/// Bytes of a house; in version 3 its breadths follow.
 pub const HOUSE_BYTES: usize = 8;
+const BREADTHS_BYTES: usize = 4;
+/// Of the longest record, one of version 3.
+pub const MOST_BYTES: usize = HEADER_BYTES + (HOUSE_BYTES + BREADTHS_BYTES) * MAX_HOUSES;
+/// The greatest breadth that a record holds, mm.
+const MOST_BREADTH: u64 = 65_535;
 
 /// Type of ship; the number is the one in the record. All but A are type B in every rule that does
 /// not name them.
@@ -49,22 +56,28 @@ impl Kind {
     }
 }
 
-/// What the head's bits are: those of version, type, number of houses and spare make two bytes.
+/// What the head's bits are, which with version, type, number of houses and spare make two bytes; and
+/// how many bytes a house has.
 #[derive(Clone, Copy, Debug, PartialEq, Eq)]
 pub enum Version {
     One = 1,
     Two = 2,
+    Three = 3,
 }
 
 impl Version {
+    pub const ALL: [Version; 3] = [Version::One, Version::Two, Version::Three];
+
     /// The version with this number, if there is one.
     pub fn of(number: u64) -> Option<Version> {
-        [Version::One, Version::Two].into_iter().find(|&version| version as u64 == number)
+        Version::ALL.into_iter().find(|&version| version as u64 == number)
     }
 
-    /// The lowest version that holds a ship of this type.
-    pub fn lowest(kind: u64) -> Version {
-        match kind {
+    /// The lowest version that holds the ship. The places beyond n do not matter.
+    pub fn lowest(raw: &RawShip) -> Version {
+        let n = raw.n.min(MAX_HOUSES as u64) as usize;
+        match raw.kind {
+            _ if any_set_in(&raw.houses[..n]) => Version::Three,
             0 | 1 => Version::One,
             _ => Version::Two,
         }
@@ -74,7 +87,7 @@ impl Version {
     pub fn widths(self) -> (usize, usize) {
         match self {
             Version::One => (2, 6),
-            Version::Two => (3, 5),
+            Version::Two | Version::Three => (3, 5),
         }
     }
 
@@ -82,8 +95,21 @@ impl Version {
     fn last_kind(self) -> u64 {
         match self {
             Version::One => 1,
-            Version::Two => 4,
+            Version::Two | Version::Three => 4,
         }
+    }
+
+    /// Bytes of a house.
+    pub fn house_bytes(self) -> usize {
+        match self {
+            Version::One | Version::Two => HOUSE_BYTES,
+            Version::Three => HOUSE_BYTES + BREADTHS_BYTES,
+        }
+    }
+
+    /// Bytes of a record with `n` houses.
+    pub fn record_bytes(self, n: usize) -> usize {
+        HEADER_BYTES + self.house_bytes() * n
     }
 }
 
@@ -95,6 +121,22 @@ pub struct House {
     pub aft: i64,
     pub fore: i64,
     pub height: u64,
+    /// The house's own breadth at the middle of its length, mm; 0 with the other for full breadth.
+    pub breadth: u64,
+    /// The ship's breadth there, mm.
+    pub beam: u64,
+}
+
+impl House {
+    /// Both breadths are zero, which says that it is not set in. Equal breadths do not say so.
+    pub fn has_full_breadth(&self) -> bool {
+        (self.breadth, self.beam) == (0, 0)
+    }
+}
+
+/// Whether some house has breadths, be they equal.
+pub fn any_set_in(houses: &[House]) -> bool {
+    houses.iter().any(|house| !house.has_full_breadth())
 }
 
 /// Up to eight houses in order from aft, kept by value; to be used as a slice.
@@ -160,7 +202,7 @@ pub struct RawShip {
     pub houses: [House; MAX_HOUSES],
 }
 
-/// A ship that passed refusals 3, 4, 7 to 11, 18 and 22.
+/// A ship that passed refusals 3, 4, 7 to 11, 18, 22 and 23.
 #[derive(Clone, Debug, PartialEq, Eq)]
 pub struct Ship {
     pub kind: Kind,
@@ -175,12 +217,7 @@ pub struct Ship {
     pub houses: Houses,
 }
 
-/// Bytes of a record with `n` houses.
-pub fn record_bytes(n: usize) -> usize {
-    HEADER_BYTES + HOUSE_BYTES * n
-}
-
-/// Reads a record of either version: refusals 1 to 11, 18 and 22.
+/// Reads a record of any version: refusals 1 to 11, 18, 22 and 23.
 pub fn read(bytes: &[u8]) -> Result<Ship, Refusal> {
     Refusal::unless(bytes.len() >= HEADER_BYTES, Refusal::SHORT_RECORD)?;
     let mut head = BitReader::new(&bytes[..HEADER_BYTES]);
@@ -191,15 +228,15 @@ pub fn read(bytes: &[u8]) -> Result<Ship, Refusal> {
     let spare = head.take(spare_bits);
     Refusal::unless(kind <= version.last_kind(), Refusal::KIND)?;
     let (_, count) = kind_and_count(kind, n)?;
-    Refusal::unless(bytes.len() == record_bytes(count), Refusal::RECORD_LENGTH)?;
-    let (raw, house_spare) = unpack(bytes);
+    Refusal::unless(bytes.len() == version.record_bytes(count), Refusal::RECORD_LENGTH)?;
+    let (raw, house_spare) = unpack(version, bytes);
     Refusal::unless(spare | house_spare == 0, Refusal::SPARE_BIT)?;
     RawShip { kind, n, ..raw }.check()
 }
 
 /// What stands after the head, unchecked: the fields, the houses there are bytes for, and all spare
-/// bits of these. Both versions have it alike; there are at least 27 bytes.
-pub fn unpack(bytes: &[u8]) -> (RawShip, u64) {
+/// bits of these. There are at least 27 bytes.
+pub fn unpack(version: Version, bytes: &[u8]) -> (RawShip, u64) {
     let mut header = BitReader::new(&bytes[..HEADER_BYTES]);
     header.take(HEAD_BITS);
     let mut raw = RawShip {
@@ -214,7 +251,7 @@ pub fn unpack(bytes: &[u8]) -> (RawShip, u64) {
         ..RawShip::default()
     };
     let mut spare = 0;
-    let parts = bytes[HEADER_BYTES..].chunks_exact(HOUSE_BYTES);
+    let parts = bytes[HEADER_BYTES..].chunks_exact(version.house_bytes());
     for (house, part) in raw.houses.iter_mut().zip(parts) {
         let mut fields = BitReader::new(part);
         *house = House {
@@ -223,30 +260,30 @@ pub fn unpack(bytes: &[u8]) -> (RawShip, u64) {
             aft: fields.take_signed(21),
             fore: fields.take_signed(21),
             height: fields.take(13),
+            ..House::default()
         };
         spare |= fields.take(7);
+        if version == Version::Three {
+            (house.breadth, house.beam) = (fields.take(16), fields.take(16));
+        }
     }
     (raw, spare)
 }
 
-/// Writes a ship in the lowest version that holds it: refusals 3, 4, 7 to 11, 18 and 22, and 17 last.
-/// Gives the record's length. A refusal changes no byte; an accepted write changes the record's bytes
-/// only.
+/// Writes a ship in the lowest version that holds it: refusals 3, 4, 7 to 11, 18, 22 and 23, and 17
+/// last. Gives the record's length. A refusal changes no byte; an accepted write changes the record's
+/// bytes only.
 pub fn write(buffer: &mut [u8], raw: &RawShip) -> Result<usize, Refusal> {
     let (_, count) = raw.check_all()?;
-    let length = record_bytes(count);
+    let version = Version::lowest(raw);
+    let length = version.record_bytes(count);
     let record = buffer.get_mut(..length).ok_or(Refusal::at(Refusal::SHORT_BUFFER, 0))?;
-    pack(record, raw);
+    pack_as(version, record, raw);
     Ok(length)
 }
 
-/// Puts the fields' low bits in their places in the lowest version, unchecked. The record is 27+8n
-/// bytes.
-pub fn pack(record: &mut [u8], raw: &RawShip) {
-    pack_as(Version::lowest(raw.kind), record, raw);
-}
-
-/// The same in this version, which need not hold the ship.
+/// Puts the fields' low bits in their places in this version, which need not hold the ship, unchecked.
+/// The record is as long as that of n houses.
 pub fn pack_as(version: Version, record: &mut [u8], raw: &RawShip) {
     let (header, houses) = record.split_at_mut(HEADER_BYTES);
     let (kind_bits, spare_bits) = version.widths();
@@ -265,7 +302,7 @@ pub fn pack_as(version: Version, record: &mut [u8], raw: &RawShip) {
     }
     fields.put(20, raw.displacement);
     fields.put(16, raw.immersion);
-    for (part, house) in houses.chunks_exact_mut(HOUSE_BYTES).zip(&raw.houses) {
+    for (part, house) in houses.chunks_exact_mut(version.house_bytes()).zip(&raw.houses) {
         let mut fields = BitWriter::new(part);
         fields.put(1, house.enclosed.into());
         fields.put(1, house.quarterdeck.into());
@@ -273,11 +310,15 @@ pub fn pack_as(version: Version, record: &mut [u8], raw: &RawShip) {
         fields.put_signed(21, house.fore);
         fields.put(13, house.height);
         fields.put(7, 0);
+        if version == Version::Three {
+            fields.put(16, house.breadth);
+            fields.put(16, house.beam);
+        }
     }
 }
 
 impl RawShip {
-    /// The ship, if it passes refusals 3, 4, 7 to 11, 18 and 22.
+    /// The ship, if it passes refusals 3, 4, 7 to 11, 18, 22 and 23.
     pub fn check(&self) -> Result<Ship, Refusal> {
         let (kind, count) = self.check_all()?;
         // All fields are below 2^20 by now.
@@ -295,7 +336,7 @@ impl RawShip {
         })
     }
 
-    /// Refusals 3, 4, 7, 22, 8 to 11 and 18; what numbers that pass say of the kind and the houses.
+    /// Refusals 3, 4, 7, 22, 8, 9, 23, 10, 11 and 18; what numbers that pass say of the kind and the houses.
     fn check_all(&self) -> Result<(Kind, usize), Refusal> {
         let (kind, count) = kind_and_count(self.kind, self.n)?;
         self.check_fields()?;
@@ -348,7 +389,7 @@ fn kind_and_count(kind: u64, n: u64) -> Result<(Kind, usize), Refusal> {
     Ok((kind, n as usize))
 }
 
-/// Refusals 9, 10, and then 11 or 18, each over all the houses before the next.
+/// Refusals 9, 23, 10, and then 11 or 18, each over all the houses before the next.
 pub fn check_houses(length: i64, houses: &[House]) -> Result<(), Refusal> {
     let sound = |h: &House| {
         h.fore > h.aft
@@ -361,8 +402,17 @@ pub fn check_houses(length: i64, houses: &[House]) -> Result<(), Refusal> {
     let quarterdeck_sound =
         |h: &House| !h.quarterdeck || (h.enclosed && h.aft <= 0 && h.fore < length);
     Refusal::first_false(Refusal::HOUSE, houses.iter().map(sound).enumerate())?;
+    Refusal::first_false(Refusal::BREADTHS, houses.iter().map(sides_sound).enumerate())?;
     Refusal::first_false(Refusal::QUARTERDECK, houses.iter().map(quarterdeck_sound).enumerate())?;
     check_pairs(houses)
+}
+
+/// Full breadth, or at most 4 per cent of the ship's breadth inside on a side: 0.92 of it is left.
+fn sides_sound(house: &House) -> bool {
+    let &House { breadth, beam, .. } = house;
+    // The products are of numbers of 16 bits by then.
+    let set_in = breadth <= beam && beam <= MOST_BREADTH && 23 * beam <= 25 * breadth;
+    house.has_full_breadth() || set_in
 }
 
 /// Refusals 11 and 18: the first house whose aft end is below the previous one's fore end decides

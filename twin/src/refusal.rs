@@ -1,5 +1,6 @@
-//! The nineteen refusals, 1 to 18 and 22. The order of their numbers is the order of the checks, but
-//! for two: 18 stands where 11 does, and one check gives either; 22 stands between 7 and 8.
+//! The twenty refusals, 1 to 18, 22 and 23. The order of their numbers is the order of the checks, but
+//! for three: 18 stands where 11 does, and one check gives either; 22 stands between 7 and 8, and 23
+//! between 9 and 10.
 
 use std::fmt;
 
@@ -33,6 +34,7 @@ impl Refusal {
     pub const SHORT_BUFFER: u8 = 17;
     pub const OUT_OF_ORDER: u8 = 18;
     pub const KIND_LENGTH: u8 = 22;
+    pub const BREADTHS: u8 = 23;
 
     /// A refusal at a named place: a field from 1, or a house from 0.
     pub fn at(number: u8, place: usize) -> Refusal {

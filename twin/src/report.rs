@@ -47,7 +47,8 @@ pub fn ship_line(ship: &Ship) -> String {
     );
     for h in ship.houses.iter() {
         let (enclosed, quarterdeck) = (u8::from(h.enclosed), u8::from(h.quarterdeck));
-        let _ = write!(line, " [{enclosed} {quarterdeck} {} {} {}]", h.aft, h.fore, h.height);
+        let House { aft, fore, height, breadth, beam, .. } = h;
+        let _ = write!(line, " [{enclosed} {quarterdeck} {aft} {fore} {height} {breadth} {beam}]");
     }
     line
 }
@@ -67,12 +68,12 @@ pub struct Trial {
     pub ship: RawShip,
 }
 
-const NUMBERS: usize = 16 + 5 * MAX_HOUSES;
+const NUMBERS: usize = 16 + 7 * MAX_HOUSES;
 const SHEER_SHIFT: i64 = 8_192;
 const STATION_SHIFT: i64 = 1_048_576;
 
 impl Trial {
-    /// The trial as 56 numbers of 8 bytes, most significant first. Signed numbers are shifted.
+    /// The trial as 72 numbers of 8 bytes, most significant first. Signed numbers are shifted.
     pub fn to_bytes(&self) -> Vec<u8> {
         let s = &self.ship;
         let mut numbers = vec![self.buffer, s.kind, s.n, s.length, s.depth, s.moulded, s.cb, s.cwf];
@@ -82,11 +83,12 @@ impl Trial {
             let station = |mm: i64| mm.wrapping_add(STATION_SHIFT) as u64;
             let (enclosed, quarterdeck) = (h.enclosed.into(), h.quarterdeck.into());
             numbers.extend([enclosed, quarterdeck, station(h.aft), station(h.fore), h.height]);
+            numbers.extend([h.breadth, h.beam]);
         }
         numbers.iter().flat_map(|number| number.to_be_bytes()).collect()
     }
 
-    /// The other way; nothing if the bytes are not 56 numbers or the buffer is above 128 bytes.
+    /// The other way; nothing if the bytes are not 72 numbers or the buffer is above 128 bytes.
     pub fn from_bytes(bytes: &[u8]) -> Option<Trial> {
         if bytes.len() != 8 * NUMBERS {
             return None;
@@ -113,6 +115,8 @@ impl Trial {
                     aft: (next() as i64).wrapping_sub(STATION_SHIFT),
                     fore: (next() as i64).wrapping_sub(STATION_SHIFT),
                     height: next(),
+                    breadth: next(),
+                    beam: next(),
                 }),
             },
         };

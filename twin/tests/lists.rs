@@ -134,31 +134,42 @@ fn refused_10(house: &House, length: i64) -> bool {
     house.quarterdeck && (!house.enclosed || house.aft > 0 || house.fore >= length)
 }
 
+/// Refusal 23, clause by clause.
+fn refused_23(house: &House, _: i64) -> bool {
+    let (breadth, beam) = (house.breadth, house.beam);
+    (breadth == 0) != (beam == 0)
+        || breadth > beam
+        || u128::from(beam) * 4 < u128::from(beam.saturating_sub(breadth)) * 50
+        || breadth.max(beam) > 65_535
+}
+
 /// A length and a list for it.
 fn drawn(random: &mut Random, n: usize) -> (i64, Vec<House>) {
     let longest = random.pick(&[30_000, 120_000, 365_000]);
     let length = random.between(24_000, longest);
     let mut houses = vec![House::default(); n];
     random.put_list(&mut houses, length);
+    random.set_in_at_times(&mut houses);
     if n > 0 && random.once_in(6) {
         random.spoil(&mut houses, length);
     }
     (length, houses)
 }
 
-/// 11 or 18 is given exactly where 9 and 10 pass and some house begins abaft the previous one's fore
+/// 11 or 18 is given exactly where 9, 23 and 10 pass and some house begins abaft the previous one's fore
 /// end; its place is the first such house, and the overlap is what a count of the mm gives.
 #[test]
 fn overlap_is_a_count() {
     let mut random = Random::new(11);
-    let mut seen = [0; 19];
+    let mut seen = [0; 24];
     for i in 0..20_000 {
         let (length, houses) = drawn(&mut random, i % 9);
         let first = |test: fn(&House, i64) -> bool| houses.iter().position(|h| test(h, length));
         let bad = (1..houses.len()).find(|&i| houses[i].aft < houses[i - 1].fore);
-        let expected = match (first(refused_9), first(refused_10), bad) {
+        let expected = match (first(refused_9), first(refused_23), first(refused_10), bad) {
             (Some(place), ..) => Err(Refusal::at(9, place)),
-            (_, Some(place), _) => Err(Refusal::at(10, place)),
+            (_, Some(place), ..) => Err(Refusal::at(23, place)),
+            (.., Some(place), _) => Err(Refusal::at(10, place)),
             (.., None) => Ok(()),
             (.., Some(place)) => {
                 let (previous, house) = (houses[place - 1], houses[place]);
@@ -177,7 +188,7 @@ fn overlap_is_a_count() {
         assert_eq!(number == 11, overlap > 0, "{length} {houses:?}");
         seen[number as usize] += 1;
     }
-    assert!([0, 9, 10, 11, 18].iter().all(|&number| seen[number] >= 500), "{seen:?}");
+    assert!([0, 9, 10, 11, 18, 23].iter().all(|&number| seen[number] >= 400), "{seen:?}");
 }
 
 /// In order of their aft ends houses are never out of order. Those that do not overlap pass when they
@@ -211,7 +222,7 @@ fn sorted_lists() {
 #[test]
 fn every_call_alike() {
     let mut random = Random::new(2);
-    let mut seen = [0; 19];
+    let mut seen = [0; 24];
     for i in 0..4_000 {
         let (length, houses) = drawn(&mut random, i % 9);
         let raw = with(RawShip { length: length as u64, ..k1() }, &houses);
@@ -221,5 +232,5 @@ fn every_call_alike() {
         assert_eq!(shortest_poop(&packed(&raw), 0, u64::MAX), Err(expected));
         seen[expected.number as usize] += 1;
     }
-    assert!([9, 10, 11, 18].iter().all(|&number| seen[number] >= 100), "{seen:?}");
+    assert!([9, 10, 11, 18, 23].iter().all(|&number| seen[number] >= 80), "{seen:?}");
 }

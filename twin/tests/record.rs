@@ -5,7 +5,7 @@ mod common;
 use common::{house, k1, k2, packed, with};
 use twin::bits;
 use twin::random::Random;
-use twin::record::{read, record_bytes, write, House, RawShip};
+use twin::record::{read, write, House, RawShip, Version};
 use twin::refusal::Refusal;
 
 fn refused(number: u8, place: usize) -> Option<Refusal> {
@@ -47,7 +47,7 @@ fn random_ships_come_back() {
     let mut random = Random::new(1);
     for i in 0..3_000 {
         let raw = random.ship(i % 9);
-        let length = record_bytes(i % 9);
+        let length = Version::One.record_bytes(i % 9);
         let mut buffer = [0xa5; 128];
         assert_eq!(write(&mut buffer, &raw), Ok(length));
         assert!(buffer[length..].iter().all(|&byte| byte == 0xa5));
@@ -73,7 +73,7 @@ fn damaged_records() {
         match read(&bytes) {
             Ok(ship) if bytes[0] >> 4 == 1 => assert_eq!(packed(&ship.raw()), bytes),
             Ok(ship) => assert_eq!(read(&packed(&ship.raw())), Ok(ship)),
-            Err(refusal) => assert!(matches!(refusal.number, 2..=11 | 18 | 22)),
+            Err(refusal) => assert!(matches!(refusal.number, 2..=11 | 18 | 22 | 23)),
         }
     }
 }
@@ -93,7 +93,7 @@ fn header_refusals_in_order() {
     assert_eq!(read(&[0xff; 26]).err(), refused(1, 0));
     assert_eq!(read(&[0xff; 27]).err(), refused(2, 0));
     assert_eq!(read_with(&k1(), &[]), None);
-    assert_eq!(read_with(&k1(), &[(0, 4, 3), (4, 2, 3)]), refused(2, 0));
+    assert_eq!(read_with(&k1(), &[(0, 4, 4), (4, 2, 3)]), refused(2, 0));
     assert_eq!(read_with(&k1(), &[(0, 4, 0), (4, 2, 3)]), refused(2, 0));
     assert_eq!(read_with(&k1(), &[(4, 2, 2), (6, 4, 9)]), refused(3, 0));
     assert_eq!(read_with(&k1(), &[(6, 4, 9), (10, 6, 1)]), refused(4, 0));

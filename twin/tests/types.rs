@@ -1,4 +1,4 @@
-//! The five types: their lines, marks and floors, refusal 22, both versions of the record, and the order
+//! The five types: their lines, marks and floors, refusal 22, the versions of the record, and the order
 //! between the types.
 
 mod common;
@@ -337,18 +337,18 @@ fn place_of_22() {
 fn every_head() {
     let mut seen = [0; 7];
     for head in 0..=u16::MAX {
-        let mut bytes = packed(&RawShip { length: 150_000, ..k1() });
         let n = if head >> 12 == 1 { head >> 6 & 15 } else { head >> 5 & 15 };
-        bytes[..2].copy_from_slice(&head.to_be_bytes());
         // As many bytes as the houses need, but 27 for 9 or more of them.
         let houses = vec![house(0, 1, 1); 8];
-        let records = packed(&with(k1(), &houses[..usize::from(if n > 8 { 0 } else { n })]));
-        bytes.extend(&records[27..]);
+        let raw = RawShip { length: 150_000, ..k1() };
+        let raw = with(raw, &houses[..usize::from(if n > 8 { 0 } else { n })]);
+        let mut bytes = packed_as(Version::of(u64::from(head >> 12)).unwrap_or(Version::One), &raw);
+        bytes[..2].copy_from_slice(&head.to_be_bytes());
         let number = read(&bytes).map_or_else(|refusal| refusal.number, |_| 0);
         let (version, first, second) = (head >> 12, head >> 10 & 3, head >> 9 & 7);
         let (kind, last, spare) = match version {
             1 => (first, 1, head & 63),
-            2 => (second, 4, head & 31),
+            2 | 3 => (second, 4, head & 31),
             _ => {
                 assert_eq!(number, 2);
                 seen[2] += 1;
@@ -383,39 +383,53 @@ fn k1_in_version_2() {
     assert!(record_line(&buffer).ends_with(" back"));
 }
 
-/// Round trips: the lowest version comes back as it is, the other one as a record that reads alike.
+/// Round trips: the lowest version comes back as it is, another one as a record that reads alike.
 #[test]
-fn round_trips_over_both_versions() {
+fn round_trips_over_all_versions() {
     let mut random = Random::new(12);
-    let mut seen = [0; 3];
+    let mut seen = [[0; 3]; 3];
     for i in 0..6_000 {
         let raw = random.any_ship(i % 9);
-        let lowest = Version::lowest(raw.kind);
-        assert_eq!(lowest == Version::Two, raw.kind > 1);
-        for version in [Version::One, Version::Two] {
+        let lowest = Version::lowest(&raw);
+        for version in Version::ALL {
             let record = packed_as(version, &raw);
-            let Ok(ship) = read(&record) else {
-                assert_eq!((version, lowest), (Version::One, Version::Two));
-                assert_eq!(read(&record), refused(3, 0));
-                continue;
-            };
-            // The two bits of version 1 hold no 4: it stands there as type A.
-            if version == Version::One && raw.kind == 4 {
-                assert_eq!(ship.kind, Kind::A);
+            assert_eq!(record.len(), 27 + if version == Version::Three { 12 } else { 8 } * (i % 9));
+            // A lower one drops what it does not hold.
+            if (version as u8) < lowest as u8 {
+                assert_ne!(read(&record), raw.check());
                 continue;
             }
+            let ship = read(&record).unwrap();
             assert_eq!(Ok(ship.clone()), raw.check());
             let mut buffer = [0xa5; 128];
             let length = write(&mut buffer, &ship.raw()).unwrap();
-            assert_eq!(length, record.len());
+            assert_eq!(length, lowest.record_bytes(i % 9));
             assert!(buffer[length..].iter().all(|&byte| byte == 0xa5));
             assert_eq!(buffer[..length] == record, version == lowest);
             assert_eq!(buffer[0] >> 4, lowest as u8);
             assert_eq!(read(&buffer[..length]), Ok(ship));
-            seen[usize::from(version == lowest) + usize::from(version == Version::One)] += 1;
+            seen[lowest as usize - 1][version as usize - 1] += 1;
         }
     }
-    assert!(seen.iter().all(|&count| count > 1_000), "{seen:?}");
+    let held = seen.iter().enumerate().flat_map(|(lowest, seen)| &seen[lowest..]);
+    assert!(held.into_iter().all(|&count| count > 1_000), "{seen:?}");
+}
+
+/// The lowest version goes by the type and by the breadths of the first n houses.
+#[test]
+fn lowest_version() {
+    let mut random = Random::new(13);
+    for i in 0..6_000 {
+        let mut raw = random.any_ship(i % 9);
+        random.set_in(&mut raw.houses[i % 9..]);
+        let set_in = raw.houses[..i % 9].iter().any(|house| house.breadth > 0);
+        let expected = match (set_in, raw.kind > 1) {
+            (true, _) => Version::Three,
+            (false, true) => Version::Two,
+            (false, false) => Version::One,
+        };
+        assert_eq!(Version::lowest(&raw), expected, "{raw:?}");
+    }
 }
 
 /// Any bits of the head changed: what is read is written in its lowest version and reads as the same ship.
@@ -425,7 +439,7 @@ fn damaged_heads() {
     let mut read_again = 0;
     for i in 0..20_000 {
         let raw = random.any_ship(i % 9);
-        let mut bytes = packed_as(random.pick(&[Version::One, Version::Two]), &raw);
+        let mut bytes = packed_as(random.pick(&Version::ALL), &raw);
         for _ in 0..random.between(1, 2) {
             let bit = random.between(0, 15) as usize;
             bytes[bit / 8] ^= 0x80 >> (bit % 8);

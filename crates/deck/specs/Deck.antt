@@ -7,11 +7,10 @@ use mathlib.Core.Path.{_≡_}
 use Rattle.whole.specs.Pick.{pick}
 use Rattle.ship.specs.declared.House.{House}
 use Rattle.houses.specs.Length.{partOf, coveredLength}
-use Rattle.houses.specs.Height.{standardHeight}
 use Rattle.houses.specs.Forecastle.{isForecastle, forecastleOf}
 use Rattle.houses.specs.Cover.{reachOf, reach}
 use Rattle.houses.specs.Amidships.{coversAmidships, amidshipsOf}
-use Rattle.effective.specs.Unrounded.{ratioOf, FairRatio, topOf, unroundedOf, FairLength}
+use Rattle.effective.specs.Unrounded.{lowHeight, ratioOf, FairRatio, unroundedOf, FairLength}
 use Rattle.summed.specs.Summed.{summedOf, bottomIn, summedWith, effectiveOn, FairSummed}
 use Rattle.deck.specs.declared.Deck.{Deck}
 use Rattle.deck.specs.declared.Forecastle.{Forecastle}
@@ -33,7 +32,7 @@ deckOf l hs = record {
 unfoldable pub deckWith : ℕ → House → Deck → Deck
 deckWith l h d = record {
   s = record { 0 = partOf l h + d .s .0 };
-  effective = summedWith (h .quarterdeck) (topOf l h) (d .effective);
+  effective = summedWith h (unroundedOf l h) (d .effective);
   reach = reachOf l h + d .reach;
   forecastle = pick (isForecastle l h) (asForecastle l h) (d .forecastle);
   amidships = pick (coversAmidships l h) (ratioOf l h) (d .amidships);
@@ -43,7 +42,7 @@ deckWith l h d = record {
 pub record FairDeck (l : ℕ) (d : Deck) : Type 0 where
   pub s : d .s .0 ≤ l
   pub sums : FairSummed (d .effective)
-  pub bottoms : (quarterdeck : Bool) → bottomIn quarterdeck (d .effective) ≡ standardHeight l quarterdeck .top
+  pub bottoms : (quarterdeck : Bool) → bottomIn quarterdeck (d .effective) ≡ lowHeight l quarterdeck .top
   pub e : effectiveOn (d .effective) ≤ 1000 * l
   pub reach : d .reach ≤ 2 * l
   pub forecastle : FairLength (d .forecastle .effective)

@@ -52,7 +52,7 @@ pub fn with_house(l: Span, h: House, ratio: Ratio, d: Deck) -> Deck
     let part = houses::part(l, h);
     let own = effective::effective_of(l, h, ratio);
     let s = Span(part.0 + d.s.0);
-    let effective = summed::with_one(h.quarterdeck, own, d.effective);
+    let effective = summed::with_one(h, own, d.effective);
     let reach = houses::reach_of(l, h) + d.reach;
     let amidships = amidships_with(l, h, ratio, d.amidships);
     let mut forecastle = d.forecastle;

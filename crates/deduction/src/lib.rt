@@ -73,7 +73,7 @@ pub fn of_full(length: Span, share: u64) -> Freeboard
 
 // The deduction, or none where the ship is of type B (`b`) and its forecastle is short, or missing and so of length 0. The fraction itself is tested.
 pub fn if_granted(b: bool, forecastle: Unrounded, length: Span, deduction: Freeboard) -> Freeboard
-    requires { ⌜ (1 ≤ forecastle .bottom) × (forecastle .bottom ≤ 2 ^ 32) × (length .0 ≤ 365000) ⌝ }
+    requires { ⌜ (1 ≤ forecastle .bottom) × (forecastle .bottom ≤ 2 ^ 35) × (length .0 ≤ 365000) ⌝ }
     ensures { λ r. ⌜ r .0 ≡ pick (lacksForecastle b (frac (forecastle .top) (forecastle .bottom)) (length .0)) 0 (deduction .0) ⌝ }
     ensures { λ r. ⌜ r .0 ≤ deduction .0 ⌝ }
 {

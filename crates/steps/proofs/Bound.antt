@@ -1,9 +1,10 @@
 -- Demand 2: the summer mark of every accepted ship is never below its exact value, and less than 1.1 mm above it.
--- What each rounding can cost adds up along the formula: 4.84 um up to what depth adds, where 1 um of a B-60 ship's line has grown to 1.39 by fullness, 1 um in what it takes, 3.25 um in the houses' deduction, 2 um in sheer;
+-- What each rounding can cost adds up along the formula: 5.1 um up to what depth adds, where 1 um of a B-60 ship's line has grown to 1.39 by fullness, 1 um in what it takes, 3.89 um in the houses' deduction, 2 um in sheer;
 -- 13 um in the bow's freeboard.
 -- Before the last rounding, to whole mm, 100 um would do (`summer-holds`).
 use Prim.Native.Nat.{_*_, _-_, _≤_}
 use native.Mathlib.Omega.{arith}
+use lib.ListN.{length-take}
 use Rattle.whole.specs.Frac.{_-f_, whole, frac}
 use Rattle.whole.specs.Round.{Within, Below}
 use Rattle.whole.proofs.Round.{loosen, below-sum}
@@ -14,8 +15,8 @@ use Rattle.percentages.proofs.Rule37.{each-row}
 use Rattle.ship.specs.declared.Ship.{Ship}
 use Rattle.ship.specs.Vessel.{housesOf}
 use Rattle.houses.specs.Length.{partOf}
-use Rattle.houses.specs.Effective.{exactEffective}
-use Rattle.houses.proofs.Rounded.{effective-length-below}
+use Rattle.houses.specs.Effective.{exactEffective, isSetIn}
+use Rattle.houses.proofs.Rounded.{effective-length-below, those-most}
 use Rattle.houses.proofs.Midship.{reach-most}
 use Rattle.corrections.specs.Fullness30.{counted}
 use Rattle.corrections.proofs.Depth31.{reduction-below}
@@ -29,21 +30,23 @@ use Rattle.basis.proofs.Laws.{line-within}
 use Rattle.steps.specs.Steps.{Sound, typeB, basis, coveredS, effectiveE, forecastleHouse, amidshipsRatio, coverReach, addedTo, takenFrom, bowOf, summerOf}
 use Rattle.steps.specs.Exact.{exactE, exactAddedTo, exactTakenFrom, exactBowOf, exactSummerOf}
 
--- E is short by at most 2 um
-short : (x : Ship) → Below (effectiveE x) (exactE x) (whole 2)
+-- E is short by at most 10 um: 2 for the sums, and 1 for each of at most eight houses with breadths
+short : (x : Ship) → x .n ≤ 8 → Below (effectiveE x) (exactE x) (whole 10)
 unfolding effectiveE exactE
-short x = effective-length-below (x .length .0) (housesOf x)
+short x n =
+    let hs = housesOf x in
+    loosen (omega (arith, those-most isSetIn hs, length-take (x .n) (x .houses))) (effective-length-below (x .length .0) hs)
 
--- the corrected value, what is added less what is taken: never below the exact difference, and at most 11.1 um above it
-pub corrected-within : (x : Ship) → Sound x → Within (addedTo (basis x .line) x - takenFrom ordinaryRow x) (exactAddedTo (basis x .exact) x -f exactTakenFrom ordinaryRow x) (frac 111 10)
+-- the corrected value, what is added less what is taken: never below the exact difference, and at most 12 um above it
+pub corrected-within : (x : Ship) → Sound x → Within (addedTo (basis x .line) x - takenFrom ordinaryRow x) (exactAddedTo (basis x .exact) x -f exactTakenFrom ordinaryRow x) (whole 12)
 unfolding addedTo takenFrom exactAddedTo exactTakenFrom
 corrected-within x k =
     let g = k .good in
     let l = x .length .0 in
-    let w = short x in
+    let w = short x (k .few) in
     let r : coverReach x ≤ 2 * l = unfold coverReach in reach-most l (housesOf x) (g .houses) in
-    let a = loosen {f = frac 484 100} (omega arith) (added-within (line-within (x .kind) l) (typeB x) l (x .depth .0) (counted (x .block)) (effectiveE x) (exactE x) (g .length-least) (omega arith) w) in
-    let d = loosen {f = frac 325 100} (omega arith) (deducted-below (each-row Ordinary .rising) (typeB x) (exactEffective l (forecastleHouse x)) l (effectiveE x) (exactE x) (g .length-least) w) in
+    let a = loosen {f = frac 51 10} (omega arith) (added-within (line-within (x .kind) l) (typeB x) l (x .depth .0) (counted (x .block)) (effectiveE x) (exactE x) (g .length-least) (omega arith) w) in
+    let d = loosen {f = frac 389 100} (omega arith) (deducted-below (each-row Ordinary .rising) (typeB x) (exactEffective l (forecastleHouse x)) l (effectiveE x) (exactE x) (g .length-least) w) in
     let t = below-sum (reduction-below l (x .depth .0) (amidshipsRatio x)) d in
     loosen (omega arith) (sheer-within (x .sheer) l (coveredS x) (coverReach x) (omega arith) r a t)
 

@@ -8,7 +8,7 @@ use std::process::{Command, ExitCode, Stdio};
 
 use twin::big::{over, whole};
 use twin::random::Random;
-use twin::record::{self, Ship};
+use twin::record::{self, Ship, Version};
 use twin::{exact, marks};
 
 const USAGE: &str = "usage: against PROGRAM COUNT SEED";
@@ -37,25 +37,29 @@ fn main() -> ExitCode {
 
 fn compare(program: &str, count: u64, seed: u64) -> Result<String, String> {
     let mut random = Random::new(seed);
-    let (mut ships, mut given, mut reduced, mut most) = (0, 0, 0, 0.0f64);
+    let (mut ships, mut given, mut set_in, mut reduced, mut most) = (0, 0, 0, 0, 0.0f64);
     let mut kinds = [0; 5];
     while ships < count {
         let n = random.between(0, 8) as usize;
         let Ok(ship) = random.any_ship(n).check() else { continue };
-        let mut record = vec![0; record::record_bytes(ship.houses.len())];
-        record::pack(&mut record, &ship.raw());
+        let raw = ship.raw();
+        let version = Version::lowest(&raw);
+        let mut record = vec![0; version.record_bytes(ship.houses.len())];
+        record::pack_as(version, &mut record, &raw);
         let line = run(program, &record).map_err(|error| format!("{program}: {error}"))?;
         ships += 1;
         let has_marks = line.starts_with('S');
         given += u64::from(has_marks);
         kinds[ship.kind as usize] += u64::from(has_marks);
+        set_in += u64::from(has_marks && version == Version::Three);
         reduced += u64::from(has_marks && marks::steps(&ship).depth_reduction > 0);
         most = most.max(judge(&ship, &line).map_err(|why| format!("{why}: {}", hex(&record)))?);
     }
     let [a, b, b60, b100, covers] = kinds;
     Ok(format!(
         "{ships} ships, {given} with marks (A {a}, B {b}, B-60 {b60}, B-100 {b100}, \
-         portable covers {covers}), {reduced} of them with a reduction for depth, \
+         portable covers {covers}), {set_in} of them with houses that are set in, \
+         {reduced} with a reduction for depth, \
          S above exact by at most {most:.3} um"
     ))
 }

@@ -72,7 +72,7 @@ fn exact_lines(ship: &Ship) -> String {
 /// The bound on the summer mark over random ships, and the largest costs seen.
 fn check(count: u64, seed: u64) -> String {
     let mut random = Random::new(seed);
-    let (mut ships, mut reduced, mut floor, mut broken) = (0, 0, 0, 0);
+    let (mut ships, mut set_in, mut reduced, mut floor, mut broken) = (0, 0, 0, 0, 0);
     let mut kinds = [0; 5];
     let (mut mark, mut before) = (0.0f64, 0.0f64);
     for _ in 0..count {
@@ -83,6 +83,7 @@ fn check(count: u64, seed: u64) -> String {
         ships += 1;
         kinds[ship.kind as usize] += 1;
         let steps = marks::steps(&ship);
+        set_in += u64::from(record::any_set_in(&ship.houses));
         reduced += u64::from(steps.depth_reduction > 0);
         floor += u64::from(steps.summer == marks::floor(ship.kind));
         broken += u64::from(!above || !exact::bound_holds(&ship));
@@ -92,7 +93,8 @@ fn check(count: u64, seed: u64) -> String {
     let [a, b, b60, b100, covers] = kinds;
     format!(
         "{ships} ships (A {a}, B {b}, B-60 {b60}, B-100 {b100}, portable covers {covers}), \
-         {reduced} with a reduction for depth, {floor} at the floor, {broken} broken, \
+         {set_in} with houses that are set in, {reduced} with a reduction for depth, \
+         {floor} at the floor, {broken} broken, \
          mark above exact by at most {mark:.3} um, \
          before the round-up by at most {before:.3} um"
     )

@@ -4,7 +4,12 @@
 use twin::record::{self, House, RawShip, Ship, Version};
 
 pub fn house(aft: i64, fore: i64, height: u64) -> House {
-    House { enclosed: true, quarterdeck: false, aft, fore, height }
+    House { enclosed: true, aft, fore, height, ..House::default() }
+}
+
+/// The house with its own breadth and the ship's.
+pub fn set_in(house: House, breadth: u64, beam: u64) -> House {
+    House { breadth, beam, ..house }
 }
 
 /// k1: no house, standard sheer for 90 m.
@@ -47,11 +52,11 @@ pub fn bulk() -> RawShip {
 
 /// The record as bytes, checked or not, in the lowest version that holds the ship.
 pub fn packed(raw: &RawShip) -> Vec<u8> {
-    packed_as(Version::lowest(raw.kind), raw)
+    packed_as(Version::lowest(raw), raw)
 }
 
 pub fn packed_as(version: Version, raw: &RawShip) -> Vec<u8> {
-    let mut bytes = vec![0; record::record_bytes(raw.n.min(8) as usize)];
+    let mut bytes = vec![0; version.record_bytes(raw.n.min(8) as usize)];
     record::pack_as(version, &mut bytes, raw);
     bytes
 }

@@ -7,7 +7,9 @@ use Rattle.whole.specs.Pick.{pick}
 use Rattle.units.specs.declared.Unrounded.{Unrounded}
 use Rattle.houses.specs.Forecastle.{isForecastle}
 use Rattle.houses.specs.Amidships.{coversAmidships}
+use Rattle.effective.proofs.Unrounded.{bottom-full}
 use Rattle.summed.specs.Summed.{summedWith}
+use Rattle.summed.proofs.Sums.{fair-of}
 use Rattle.deck.specs.declared.Deck.{Deck}
 use Rattle.deck.specs.Deck.{deckWith}
 use Rattle.deck.proofs.with_house.Statement.{statement}
@@ -39,7 +41,7 @@ laid f b t =
     let a = p .before .args in
     let q : b ≡ isForecastle (a .l .0) (a .h) = sym t ∙ f .is-forecastle .ensures in
     let own = e .effective-of .ensures .1 .0 in
-    let sums = w .with-one .ensures ∙ ap (λ (u : Unrounded). summedWith (a .h .quarterdeck) (u .top) (a .d .effective)) own in
+    let sums = w .with-one .ensures ∙ ap (λ (u : Unrounded). summedWith (a .h) u (a .d .effective)) own in
     let ratio = m .amidships-with .ensures ∙ (λ i. pick (coversAmidships (a .l .0) (a .h)) (p .before .pre .2 i) (a .d .amidships)) in
     λ i. record {
       s = record { 0 = p .part .ensures .0 i + a .d .s .0 };
@@ -55,14 +57,15 @@ with-house-spec =
     tie.close
     (tie.spec
     (λ c κs. search needs)
-    (λ c κs. search needs)
+    (λ c κs. let s = c .before in (s .pre .0, s .pre .2, fair-of (s .pre .1)))
     (λ c. search needs)
     (λ c κs.
     let e = c .before .before in
     let s = e .before .before in
     let d = s .pre .3 in
-    let over = ap (λ (u : Unrounded). u .bottom) (e .effective-of .ensures .1 .0) ∙ sym (d .bottoms (s .args .h .quarterdeck)) in
-    (e .effective-of .ensures .1 .1, d .sums, over))
+    let h = s .args .h in
+    let over = ap (λ (u : Unrounded). u .bottom) (e .effective-of .ensures .1 .0) in
+    (e .effective-of .ensures .1 .1, d .sums, λ f. over ∙ bottom-full (s .args .l .0) h f ∙ sym (d .bottoms (h .quarterdeck))))
     (λ c κs. search needs)
     (λ c. search needs)
     (λ c κs. search needs)

@@ -14,7 +14,7 @@ if-granted-spec =
     tie.close
     (tie.spec
     (λ c. search needs)
-    (λ c. let a = c .args in omega (arith, mul-most (70 * a .length .0) (a .forecastle .bottom) (70 * 365000) (2 ^ 32) (omega arith) (omega arith)))
+    (λ c. let a = c .args in omega (arith, mul-most (70 * a .length .0) (a .forecastle .bottom) (70 * 365000) (2 ^ 35) (omega arith) (omega arith)))
     (λ c.
     let a = c .before .before .args in
     let e = lacks-quotient (a .b) (a .forecastle .top) (a .forecastle .bottom) (a .length .0) (omega arith) in

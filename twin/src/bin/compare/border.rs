@@ -41,12 +41,14 @@ fn put_house(random: &mut Random, raw: &mut RawShip) {
     let length = raw.length as i64;
     let previous = raw.houses[place.saturating_sub(1)];
     let house = &mut raw.houses[place];
-    match random.between(1, 6) {
+    match random.between(1, 8) {
         1 => house.aft = random.pick(&[-20_000, 0, length]) + random.between(-1, 1),
         2 => house.fore = random.pick(&[0, length, length + 20_000]) + random.between(-1, 1),
         3 => house.height = random.pick(&[0, 1, 8_191, 8_192]),
         4 => house.aft = previous.fore + random.between(-1, 1),
         5 => house.fore = house.aft + random.between(-1, 1),
+        6 => (house.breadth, house.beam) = random.bad_breadths(),
+        7 => (house.breadth, house.beam) = random.breadths(),
         _ => {
             house.quarterdeck = true;
             house.enclosed = random.once_in(2);

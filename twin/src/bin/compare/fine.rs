@@ -12,15 +12,16 @@ const TRIES: usize = 2_000;
 /// The ship with `n` houses, or with a poop besides: then also the height and the mark to ask for.
 /// One in three is below L/15 with a house amidships, which may be the poop.
 pub fn ship(random: &mut Random, n: usize) -> (RawShip, Option<(u64, u64)>) {
-    let shallow = random.once_in(3);
+    let kind = random.kind();
+    // B-60 and B-100 are never short: no poop is the house amidships.
+    let long = matches!(kind, 2 | 3);
+    let shallow = random.once_in(3) && (n > 0 || !long);
     // E is worth most to a short ship.
-    let longest = random.pick(&[30_000, 365_000]);
+    let longest = if long { 365_000 } else { random.pick(&[30_000, 365_000]) };
     loop {
-        let kind = random.kind();
         let mut raw =
             if shallow { random.low_ship_of(Some(kind), n) } else { random.ship_of(kind, n) };
-        // B-60 and B-100 are never short.
-        if raw.length > longest && !matches!(kind, 2 | 3) {
+        if raw.length > longest {
             continue;
         }
         put_low_houses(random, &mut raw);
@@ -34,7 +35,8 @@ pub fn ship(random: &mut Random, n: usize) -> (RawShip, Option<(u64, u64)>) {
     }
 }
 
-/// Makes every house lower than standard, and the first one a raised quarterdeck at times.
+/// Makes every house lower than standard, and the first one a raised quarterdeck at times. In every
+/// other ship some are set in, so that one of several roundings of E may show.
 fn put_low_houses(random: &mut Random, raw: &mut RawShip) {
     let length = raw.length as i64;
     let houses = &mut raw.houses[..raw.n as usize];
@@ -44,8 +46,11 @@ fn put_low_houses(random: &mut Random, raw: &mut RawShip) {
                 House { enclosed: true, quarterdeck: true, aft: -random.between(0, 99), ..*first };
         }
     }
-    for house in houses {
+    for house in houses.iter_mut() {
         house.height = low(random, house.quarterdeck, length);
+    }
+    if random.once_in(2) {
+        random.set_in(houses);
     }
 }
 
@@ -67,7 +72,7 @@ pub fn poop(random: &mut Random, ship: &Ship, shallow: bool) -> Option<House> {
     };
     let height = low(random, false, ship.length);
     let fits = ship.houses.len() < MAX_HOUSES && room > 0 && (amidships || random.once_in(2));
-    fits.then_some(House { enclosed: true, quarterdeck: false, aft: 0, fore, height })
+    fits.then_some(House { enclosed: true, fore, height, ..House::default() })
 }
 
 /// The shortest poop that reaches 0.8 L, dm.
@@ -118,6 +123,31 @@ fn reduction_shows(steps: &Steps) -> bool {
 mod tests {
     use super::*;
     use twin::record::Kind;
+
+    /// Ships with houses that are set in, with more than one rounding of E, where it is worth most too.
+    #[test]
+    fn set_in_houses_show() {
+        let mut random = Random::new(35);
+        let mut seen = [0; 4];
+        for i in 0..4_000 {
+            let ship = ship(&mut random, i % 9).0.check().expect("a valid ship");
+            let enclosed: Vec<House> = ship.houses.iter().filter(|h| h.enclosed).copied().collect();
+            let steps = marks::steps(&ship);
+            let shown = steps.corrected > steps.bow && !enclosed.is_empty();
+            let full = enclosed.iter().filter(|house| house.has_full_breadth()).count();
+            let set_in = enclosed.len() - full;
+            let cut = enclosed.iter().any(|house| house.breadth < house.beam);
+            for (count, holds) in seen.iter_mut().zip([
+                set_in > 0 && full > 0,
+                set_in > 1,
+                set_in > 0 && !cut,
+                set_in > 0 && ship.length <= 30_000,
+            ]) {
+                *count += u32::from(holds && shown);
+            }
+        }
+        assert!(seen.iter().all(|&n| n >= 100), "{seen:?}");
+    }
 
     /// Ships of every type, and B-60 where the rounding of its line shows: with a line that is not whole um,
     /// one um above a whole mm.

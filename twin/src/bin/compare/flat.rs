@@ -4,7 +4,9 @@ use twin::record::{House, RawShip, MAX_HOUSES};
 
 /// Numbers before the houses.
 pub const HEADER: usize = 15;
-pub const SHIP: usize = HEADER + 5 * MAX_HOUSES;
+/// Numbers of a house.
+const HOUSE: usize = 7;
+pub const SHIP: usize = HEADER + HOUSE * MAX_HOUSES;
 
 /// The ship's numbers; a flag that is set is stated as `yes`.
 pub fn numbers(raw: &RawShip, yes: u64) -> [u64; SHIP] {
@@ -13,7 +15,8 @@ pub fn numbers(raw: &RawShip, yes: u64) -> [u64; SHIP] {
     let sheer = raw.sheer.map(|ordinate| ordinate as u64);
     let certified = [raw.displacement, raw.immersion];
     let houses = raw.houses.iter().flat_map(|h| {
-        [flag(h.enclosed), flag(h.quarterdeck), h.aft as u64, h.fore as u64, h.height]
+        let (aft, fore) = (h.aft as u64, h.fore as u64);
+        [flag(h.enclosed), flag(h.quarterdeck), aft, fore, h.height, h.breadth, h.beam]
     });
     let mut all = fields.into_iter().chain(sheer).chain(certified).chain(houses);
     std::array::from_fn(|_| all.next().unwrap_or_default())
@@ -40,6 +43,8 @@ pub fn ship(numbers: &[u64; SHIP]) -> RawShip {
             aft: next() as i64,
             fore: next() as i64,
             height: next(),
+            breadth: next(),
+            beam: next(),
         }),
     }
 }
@@ -51,7 +56,7 @@ mod tests {
     #[test]
     fn every_number_has_its_place() {
         let mut all: [u64; SHIP] = std::array::from_fn(|place| 100 + place as u64);
-        for house in all[HEADER..].chunks_exact_mut(5) {
+        for house in all[HEADER..].chunks_exact_mut(HOUSE) {
             house[..2].fill(7);
         }
         assert_eq!(numbers(&ship(&all), 7), all);

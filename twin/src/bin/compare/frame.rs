@@ -6,7 +6,7 @@ use crate::input::Input;
 /// Most requests in a batch.
 pub const BATCH: usize = 256;
 /// Room for a record, and the longest buffer that is lent.
-pub const ROOM: usize = 128;
+pub const ROOM: usize = 160;
 /// Bytes before and after the room that a buffer is lent from.
 pub const GUARD: usize = 16;
 pub const MEMORY: usize = GUARD + ROOM + GUARD;
@@ -100,7 +100,7 @@ mod tests {
     #[test]
     fn sizes() {
         let input = Input::draw(&mut Random::new(1));
-        assert_eq!(batch(&[input]).len(), 8 + 768);
-        assert_eq!(ANSWER, 1080);
+        assert_eq!(batch(&[input]).len(), 8 + 960);
+        assert_eq!(ANSWER, 1304);
     }
 }

@@ -1,4 +1,4 @@
-//! Records and ships about refusals 2, 3, 6 and 22: types, versions, and lengths where one of them ends.
+//! Records and ships about refusals 2, 3, 5, 6 and 22: types, versions, and lengths where one of them ends.
 
 use twin::bits;
 use twin::random::Random;
@@ -15,6 +15,7 @@ pub fn ship(random: &mut Random, n: usize) -> RawShip {
         _ => random.length_of(kind),
     };
     let mut raw = RawShip { kind, ..random.ship_of_length(length.max(24_000), n) };
+    random.set_in_at_times(&mut raw.houses[..n]);
     match random.between(1, 12) {
         // Refusal 7 by another field, or by the length itself.
         1 => raw.cwf = random.pick(&[0, 10_001]),
@@ -30,13 +31,14 @@ pub fn ship(random: &mut Random, n: usize) -> RawShip {
 /// Puts another version, type, number of houses or spare bit over a record's head, every other time.
 pub fn damage(random: &mut Random, record: &mut [u8]) {
     for _ in 0..random.pick(&[0, 0, 1, 2]) {
-        match random.between(1, 5) {
+        match random.between(1, 6) {
             1 => bits::put_over(record, 0, 4, random.between(0, 15) as u64),
-            2 => bits::put_over(record, 4, 3, random.between(0, 7) as u64),
-            3 => bits::put_over(record, 7, 4, random.between(0, 15) as u64),
-            4 => record[1] ^= 1 << random.between(0, 5),
-            // A spare bit of the first or the second house; without it, a byte behind the record.
-            _ => record[random.pick(&[34, 42])] ^= 1 << random.between(0, 6),
+            2 | 3 => bits::put_over(record, 4, 3, random.pick(&[0, 1, 2, 3, 4, 5, 5, 6, 6, 7, 7])),
+            4 => bits::put_over(record, 7, 4, random.between(0, 15) as u64),
+            5 => record[1] ^= 1 << random.between(0, 5),
+            // A spare bit of the first house, or of the second with 8 or with 12 bytes a house; without
+            // it, a byte behind the record.
+            _ => record[random.pick(&[34, 42, 46])] ^= 1 << random.between(0, 6),
         }
     }
 }
@@ -85,14 +87,14 @@ mod tests {
         assert!(seen.iter().all(|&n| n >= 30), "{seen:?}");
     }
 
-    /// Every version and every type in each of the two, with what they come to.
+    /// Every version and every type in each of the three, with what they come to.
     #[test]
     fn heads() {
         let mut random = Random::new(2);
         let mut versions = [0; 16];
-        let mut types = [[0; 8]; 2];
-        let mut spare = [[0; 6]; 2];
-        let mut seen = [0; 5];
+        let mut types = [[0; 8]; 3];
+        let mut spare = [[0; 6]; 3];
+        let mut seen = [0; 8];
         for _ in 0..60_000 {
             let input = Input::draw(&mut random);
             let bytes = input.record();
@@ -117,14 +119,19 @@ mod tests {
                 number == 0 && version == 1,
                 number == 0 && version == 2 && lowest,
                 number == 0 && version == 2 && !lowest,
+                number == 0 && version == 3 && lowest,
+                number == 0 && version == 3 && !lowest,
                 number == 3 && version == 1,
                 number == 3 && version == 2,
+                number == 3 && version == 3,
             ];
             count(&mut seen, holds);
         }
         assert!(versions.iter().all(|&n| n >= 100), "{versions:?}");
-        assert!(types[0][..4].iter().chain(&types[1]).all(|&n| n >= 100), "{types:?}");
-        assert!(spare[0].iter().chain(&spare[1][..5]).all(|&n| n >= 50), "{spare:?}");
+        let kinds = types[0][..4].iter().chain(types[1..].as_flattened());
+        assert!(kinds.into_iter().all(|&n| n >= 100), "{types:?}");
+        let bits = spare[0].iter().chain(&spare[1][..5]).chain(&spare[2][..5]);
+        assert!(bits.into_iter().all(|&n| n >= 50), "{spare:?}");
         assert!(seen.iter().all(|&n| n >= 300), "{seen:?}");
     }
 

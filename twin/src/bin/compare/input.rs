@@ -13,6 +13,7 @@ use crate::frame::{MEMORY, ROOM};
 use crate::heads;
 use crate::lists;
 use crate::sheer;
+use crate::sides;
 
 /// How a record came about.
 #[derive(Clone, Copy)]
@@ -22,6 +23,7 @@ pub enum Kind {
     Border,
     List,
     Head,
+    Side,
     Damaged,
     Noise,
     Sheer,
@@ -35,6 +37,7 @@ impl fmt::Display for Kind {
             Kind::Border => "at a border",
             Kind::List => "about overlap and order",
             Kind::Head => "about types and versions",
+            Kind::Side => "about set-in sides",
             Kind::Damaged => "damaged",
             Kind::Noise => "noise",
             Kind::Sheer => "about sheer",
@@ -60,17 +63,18 @@ impl Input {
     pub fn draw(random: &mut Random) -> Input {
         let n = random.between(0, MAX_HOUSES as i64) as usize;
         let raw = random.any_ship(n);
-        let mut input = Input::blank(random, n);
-        match random.between(1, 30) {
+        let mut input = Input::blank(random);
+        match random.between(1, 34) {
             1..=6 => input.pack(random, &raw),
             7..=9 => input.put_whole_mm(random, n),
             10..=14 => input.put_border(random, raw.clone()),
             15..=19 => input.put_damaged(random, &raw),
             20..=24 => input.put_list(random, raw.clone()),
             25..=28 => input.put_head(random, n),
+            29..=32 => input.put_side(random, raw.clone()),
             _ => input.put_noise(random),
         }
-        input.ship = stated(random, raw);
+        input.state(random, raw);
         if input.question.is_none() && random.once_in(4) {
             input.question = Some(asked(random, input.record()));
         }
@@ -80,25 +84,31 @@ impl Input {
     /// One around the borders of sheer.
     pub fn draw_sheer(random: &mut Random) -> Input {
         let (raw, question) = sheer::ship(random);
-        let mut input = Input::blank(random, raw.n as usize);
+        let mut input = Input::blank(random);
         input.kind = Kind::Sheer;
         input.question = question;
         input.pack(random, &raw);
-        input.ship = stated(random, raw);
+        input.state(random, raw);
         input
     }
 
-    fn blank(random: &mut Random, n: usize) -> Input {
+    fn blank(random: &mut Random) -> Input {
         let pattern = random.number();
         Input {
             kind: Kind::Valid,
             record: filled(pattern),
-            record_length: record::record_bytes(n),
+            record_length: 0,
             question: None,
             ship: [0; SHIP],
-            buffer_length: buffer_length(random, n),
+            buffer_length: 0,
             memory: filled(pattern.rotate_left(4)),
         }
+    }
+
+    /// The ship to be written, and how long its buffer is.
+    fn state(&mut self, random: &mut Random, raw: RawShip) {
+        self.ship = stated(random, raw);
+        self.buffer_length = buffer_length(random, &flat::ship(&self.ship));
     }
 
     /// The bytes of the record.
@@ -106,17 +116,18 @@ impl Input {
         &self.record[..self.record_length]
     }
 
-    /// In the lowest version that holds the ship, or for types A and B in version 2.
+    /// In the lowest version that holds the ship, every other time in any that does.
     fn pack(&mut self, random: &mut Random, raw: &RawShip) {
-        let version = match random.once_in(4) {
-            true => Version::Two,
-            false => Version::lowest(raw.kind),
+        let lowest = Version::lowest(raw);
+        let version = match random.once_in(2) {
+            true => random.pick(&Version::ALL[lowest as usize - 1..]),
+            false => lowest,
         };
         self.pack_as(version, raw);
     }
 
     fn pack_as(&mut self, version: Version, raw: &RawShip) {
-        self.record_length = record::record_bytes(raw.n.min(MAX_HOUSES as u64) as usize);
+        self.record_length = version.record_bytes(raw.n.min(MAX_HOUSES as u64) as usize);
         record::pack_as(version, &mut self.record[..self.record_length], raw);
     }
 
@@ -140,7 +151,7 @@ impl Input {
             4 => self.record_length += 1,
             5 => self.record[0] ^= 0x10 << random.between(0, 3), // version
             6 => self.record[1] ^= 1 << random.between(0, 5),    // spare, or the last bit of n
-            7 => self.record[self.record_length - 1] ^= 1,       // immersion, or a house's spare
+            7 => self.record[self.record_length - 1] ^= 1, // immersion, a house's spare, or a breadth
             _ => {}
         }
     }
@@ -155,16 +166,25 @@ impl Input {
     fn put_head(&mut self, random: &mut Random, n: usize) {
         self.kind = Kind::Head;
         let raw = heads::ship(random, n);
-        let lowest = Version::lowest(raw.kind);
-        self.pack_as(random.pick(&[lowest, lowest, lowest, Version::Two, Version::One]), &raw);
+        let lowest = [Version::lowest(&raw); 3];
+        self.pack_as(random.pick([lowest, Version::ALL].as_flattened()), &raw);
         heads::damage(random, &mut self.record);
         match random.between(1, 24) {
             1 => self.record_length = 26,
             2 => self.record_length -= 1,
             3 => self.record_length += 1,
-            4 => self.record_length += 8,
+            4 => self.record_length += random.pick(&[8, 12]),
             _ => {}
         }
+    }
+
+    /// Breadths, most often in version 3, and bytes of another version at times.
+    fn put_side(&mut self, random: &mut Random, mut raw: RawShip) {
+        self.kind = Kind::Side;
+        sides::put(random, &mut raw);
+        let version = random.pick(&[Version::Three, Version::Three, Version::lowest(&raw)]);
+        self.pack_as(version, &raw);
+        sides::damage(random, &mut self.record, &mut self.record_length);
     }
 
     fn put_damaged(&mut self, random: &mut Random, raw: &RawShip) {
@@ -190,11 +210,12 @@ impl Input {
 
     fn put_noise(&mut self, random: &mut Random) {
         self.kind = Kind::Noise;
-        self.record_length = random.between(0, 100) as usize;
+        self.record_length = random.between(0, 130) as usize;
         self.record.fill_with(|| random.number() as u8);
-        match random.between(1, 4) {
+        match random.between(1, 5) {
             1 => self.record[0] = 0x10 | self.record[0] & 0x07, // version 1, type A or B
             2 => self.record[0] = 0x20 | self.record[0] & 0x07, // version 2, types A to B-100
+            3 => self.record[0] = 0x30 | self.record[0] & 0x07, // version 3, the same
             _ => {}
         }
     }
@@ -206,22 +227,27 @@ fn filled<const N: usize>(pattern: u64) -> [u8; N] {
     std::array::from_fn(|i| bytes[i % 8])
 }
 
-/// Any length, often about that of a record with `n` houses.
-fn buffer_length(random: &mut Random, n: usize) -> usize {
-    match random.between(1, 3) {
-        1 => record::record_bytes(n) + random.between(0, 2) as usize - 1,
-        _ => random.between(0, ROOM as i64) as usize,
-    }
+/// Any length, often about that of the ship's record, at times about that in another version.
+fn buffer_length(random: &mut Random, raw: &RawShip) -> usize {
+    let version = match random.between(1, 6) {
+        1 | 2 => Version::lowest(raw),
+        3 => random.pick(&Version::ALL),
+        _ => return random.between(0, ROOM as i64) as usize,
+    };
+    let n = raw.n.min(MAX_HOUSES as u64) as usize;
+    version.record_bytes(n) + random.between(0, 2) as usize - 1
 }
 
-/// The numbers of the ship: as they are, at a border, with another list of houses, about refusal 22,
-/// or any.
+/// The numbers of the ship: as they are, at a border, with another list of houses, about refusals 22
+/// and 23, or any.
 fn stated(random: &mut Random, mut raw: RawShip) -> [u64; SHIP] {
-    let kind = random.between(1, 14);
+    let kind = random.between(1, 18);
     match kind {
         5..=7 => border::put(random, &mut raw),
         11 | 12 => lists::put(random, &mut raw),
         13 | 14 => raw = heads::ship(random, raw.n as usize),
+        15 | 16 => sides::put(random, &mut raw),
+        17 | 18 => sides::put_wide(random, &mut raw),
         _ => {}
     }
     let yes = random.pick(&[1, 1, 1, 2, 256, 1 << 32, 1 << 63, u64::MAX]);

@@ -45,12 +45,13 @@ fn numbers<const N: usize, const GIVEN: usize>(result: Result<[u64; GIVEN], Refu
 fn written_back(input: &Input, ship: Result<&Ship, Refusal>) -> Written {
     let mut back = Written { numbers: [0; WRITE], memory: input.memory };
     let Ok(ship) = ship else { return back };
-    let length = input.record_length;
+    let raw = ship.raw();
+    let length = Version::lowest(&raw).record_bytes(ship.houses.len());
     let written = &mut back.memory[GUARD..][..length];
     if in_lowest_version(input, ship) {
         written.copy_from_slice(input.record());
     } else {
-        assert_eq!(record::write(written, &ship.raw()), Ok(length));
+        assert_eq!(record::write(written, &raw), Ok(length));
         assert_eq!(record::read(written).as_ref(), Ok(ship));
     }
     back.numbers[REFUSAL] = length as u64;
@@ -59,7 +60,7 @@ fn written_back(input: &Input, ship: Result<&Ship, Refusal>) -> Written {
 
 /// Whether the record of this ship has the version that a writer gives it.
 pub fn in_lowest_version(input: &Input, ship: &Ship) -> bool {
-    input.record[0] >> 4 == Version::lowest(ship.kind as u64) as u8
+    input.record[0] >> 4 == Version::lowest(&ship.raw()) as u8
 }
 
 fn written(input: &Input) -> Written {

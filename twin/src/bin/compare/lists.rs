@@ -11,6 +11,7 @@ pub fn put(random: &mut Random, raw: &mut RawShip) {
     let length = raw.length as i64;
     // The places beyond n too: what stands there must not matter.
     random.put_list(&mut raw.houses, length);
+    random.set_in_at_times(&mut raw.houses);
     let n = raw.n.min(MAX_HOUSES as u64) as usize;
     match random.between(1, 12) {
         1..=3 if n > 0 => random.spoil(&mut raw.houses[..n], length),
@@ -95,10 +96,10 @@ mod tests {
         assert!(orders.iter().chain(&order_only).all(|&n| n >= 50), "{orders:?} {order_only:?}");
     }
 
-    /// Bad houses of both kinds in one list, open ones among them, at every place; 9 or 10 besides.
+    /// Bad houses of both kinds in one list, open ones among them, at every place; 9, 10 or 23 besides.
     #[test]
     fn lists_of_houses() {
-        let mut seen = [0; 8];
+        let mut seen = [0; 9];
         let mut places = [[0; 2]; MAX_HOUSES];
         for raw in ships(18) {
             let list = houses(&raw);
@@ -121,6 +122,7 @@ mod tests {
                 number == 0 && !bad(&raw.houses).is_empty(),
                 number == Refusal::HOUSE && !all.is_empty(),
                 number == Refusal::QUARTERDECK && !all.is_empty(),
+                number == Refusal::BREADTHS && !all.is_empty(),
             ];
             count(&mut seen, holds);
         }

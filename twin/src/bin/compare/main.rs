@@ -13,6 +13,7 @@ mod input;
 mod judge;
 mod lists;
 mod sheer;
+mod sides;
 mod tally;
 
 use std::io::{Read, Write};

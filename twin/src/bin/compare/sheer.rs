@@ -245,6 +245,7 @@ fn put_houses(random: &mut Random, raw: &mut RawShip) {
         n += 1;
     }
     raw.n = n as u64;
+    random.set_in_at_times(&mut raw.houses[..n]);
 }
 
 /// A forecastle is most often high, so that the bow height does not decide.
@@ -256,7 +257,7 @@ fn house(random: &mut Random, aft: i64, fore: i64, length: i64) -> House {
         _ if fore >= length => random.between(2_300, 8_191),
         _ => random.between(1_500, 2_500),
     } as u64;
-    House { enclosed, quarterdeck, aft, fore, height }
+    House { enclosed, quarterdeck, aft, fore, height, ..House::default() }
 }
 
 /// At times a poop that leads to a short search; on a short ship it may reach amidships.

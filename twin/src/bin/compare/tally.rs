@@ -1,6 +1,6 @@
-//! What was compared, how many marks of each type were in it, how often a reduction for depth was, and
-//! how often each refusal was seen, 11, 18 and 22 in each call; for inputs around the borders of sheer,
-//! where the marks lie.
+//! What was compared, how many marks of each type were in it, how often a house that is set in and a
+//! reduction for depth was, and how often each refusal was seen, 11, 18, 22 and 23 in each call; for
+//! inputs around the borders of sheer, where the marks lie.
 
 use std::fmt;
 
@@ -13,28 +13,41 @@ use crate::judge;
 use crate::sheer;
 
 /// Of records that are not around the borders of sheer.
-const KINDS: [Kind; 7] =
-    [Kind::Valid, Kind::WholeMm, Kind::Border, Kind::List, Kind::Head, Kind::Damaged, Kind::Noise];
+const KINDS: [Kind; 8] = [
+    Kind::Valid,
+    Kind::WholeMm,
+    Kind::Border,
+    Kind::List,
+    Kind::Head,
+    Kind::Side,
+    Kind::Damaged,
+    Kind::Noise,
+];
 const TYPES: [&str; 5] = ["A", "B", "B-60", "B-100", "portable covers"];
 const WRITES_BACK: &str = "writes back";
 const CALLS: [&str; 5] = ["marks", "reads", WRITES_BACK, "writes", "questions"];
-const REFUSALS: [usize; 19] = [1, 2, 3, 4, 5, 6, 7, 22, 8, 9, 10, 11, 18, 12, 13, 14, 15, 16, 17];
+const REFUSALS: [usize; 20] =
+    [1, 2, 3, 4, 5, 6, 7, 22, 8, 9, 23, 10, 11, 18, 12, 13, 14, 15, 16, 17];
+/// Those of one of the later papers, each of them of every call.
+const LATER: [usize; 4] = [11, 18, 22, 23];
 /// One more than the greatest.
-const NUMBERS: usize = 23;
+const NUMBERS: usize = 24;
 
 #[derive(Default)]
 pub struct Tally {
     pub inputs: u64,
     /// In the order of `Kind`.
-    kinds: [u64; 8],
+    kinds: [u64; 9],
     /// Calls made and accepted, in the order of `CALLS`.
     calls: [(u64, u64); CALLS.len()],
     /// Marks of each type.
     types: [u64; TYPES.len()],
     /// Summer marks at 50 and at 150, the floor of their type.
     floors: [u64; 2],
-    /// Records that were read: of version 1, of version 2, and of version 2 and written back in 1.
-    versions: [u64; 3],
+    /// Records that were read, by version, and how many of each were written back in a lower one.
+    versions: [(u64, u64); 3],
+    /// Marks with an enclosed house that has breadths, and with one that has less than all of the ship's.
+    set_in: [u64; 2],
     /// Marks with a reduction for depth, and poops that earn one.
     reductions: (u64, u64),
     /// By number; for each of `CALLS`.
@@ -122,15 +135,18 @@ impl Tally {
 
     fn add_steps(&mut self, input: &Input, answer: &Answer) {
         let Ok(ship) = record::read(input.record()) else { return };
-        let second = input.record[0] >> 4 == 2;
-        self.versions[usize::from(second)] += 1;
-        self.versions[2] += u64::from(!judge::in_lowest_version(input, &ship));
+        let (read, lower) = &mut self.versions[usize::from(input.record[0] >> 4) - 1];
+        *read += 1;
+        *lower += u64::from(!judge::in_lowest_version(input, &ship));
         if answer.marks[0] == 0 {
             let steps = marks::steps(&ship);
             self.types[ship.kind as usize] += 1;
             let floor = marks::floor(ship.kind);
             self.floors[usize::from(floor == 150)] += u64::from(steps.summer == floor);
             self.reductions.0 += u64::from(steps.depth_reduction > 0);
+            let mut enclosed = ship.houses.iter().filter(|house| house.enclosed);
+            self.set_in[0] += u64::from(enclosed.clone().any(|house| !house.has_full_breadth()));
+            self.set_in[1] += u64::from(enclosed.any(|house| house.breadth < house.beam));
             if let Some(sheer) = &mut self.sheer {
                 sheer.add(&ship, &steps);
             }
@@ -151,13 +167,15 @@ impl Tally {
         REFUSALS.into_iter().find(|&refusal| self.seen(refusal) == 0)
     }
 
-    /// Refusals 11, 18 and 22 in each call but writing back: a ship that was read is never refused.
+    /// Refusals 11, 18, 22 and 23 in each call but writing back: a ship that was read is never refused.
     fn in_each_call(&self) -> String {
         let calls = CALLS.iter().zip(&self.refusals).filter(|(call, _)| **call != WRITES_BACK);
-        let counts =
-            calls.map(|(call, seen)| format!("{call} {}, {} and {}", seen[11], seen[18], seen[22]));
+        let counts = calls.map(|(call, seen)| {
+            let [a, b, c, d] = LATER.map(|number| seen[number]);
+            format!("{call} {a}, {b}, {c} and {d}")
+        });
         format!(
-            "11, 18 and 22 in {}; overlaps of 1 mm {}, the greatest {} mm",
+            "11, 18, 22 and 23 in {}; overlaps of 1 mm {}, the greatest {} mm",
             counts.collect::<Vec<_>>().join(", "),
             self.overlaps.0,
             self.overlaps.1
@@ -167,11 +185,14 @@ impl Tally {
     /// Marks by type and at the floors, and records by version.
     fn types_and_versions(&self) -> String {
         let types = TYPES.iter().zip(self.types).map(|(name, count)| format!("{name} {count}"));
-        let ([fifty, more], [first, second, back]) = (self.floors, self.versions);
+        let ([fifty, more], [breadths, less]) = (self.floors, self.set_in);
+        let [(first, _), (second, as_first), (third, as_lower)] = self.versions;
         format!(
-            "marks of types {}, at the floor of 50 mm {fifty}, of 150 mm {more}; \
+            "marks of types {}, at the floor of 50 mm {fifty}, of 150 mm {more}, \
+             with breadths {breadths}, with a house less broad than the ship {less}; \
              records read of version 1 {first}, of version 2 {second}, \
-             {back} of them written back in version 1",
+             {as_first} of them written back in version 1, of version 3 {third}, \
+             {as_lower} of them written back in version 1 or 2",
             types.collect::<Vec<_>>().join(", ")
         )
     }
@@ -240,10 +261,13 @@ mod tests {
         }
         assert!(tally.types.iter().all(|&n| n >= 500), "{tally}");
         assert!(tally.floors.iter().all(|&n| n >= 40), "{tally}");
-        assert!(tally.versions.iter().all(|&n| n >= 500), "{tally}");
+        let [(first, none), (second, as_first), (third, as_lower)] = tally.versions;
+        assert_eq!(none, 0, "{tally}");
+        let counts = [first, second, third, as_first, as_lower];
+        assert!(counts.iter().chain(&tally.set_in).all(|&n| n >= 400), "{tally}");
     }
 
-    /// All refusals are seen, and both of a list of houses and 22 in every call.
+    /// All refusals are seen, and both of a list of houses, 22 and 23 in every call.
     #[test]
     fn refusals_are_drawn() {
         let mut random = Random::new(18);
@@ -254,9 +278,9 @@ mod tests {
         }
         assert_eq!(tally.unseen(), None, "{tally}");
         for (call, seen) in CALLS.iter().zip(&tally.refusals) {
-            let counts = [seen[11], seen[18], seen[22]];
+            let counts = LATER.map(|number| seen[number]);
             if *call == WRITES_BACK {
-                assert_eq!(counts, [0; 3], "{tally}");
+                assert_eq!(counts, [0; 4], "{tally}");
             } else {
                 assert!(counts.iter().all(|&n| n >= 20), "{tally}");
             }

@@ -39,6 +39,11 @@ deck-with l h hs =
       amidships = amidships i;
     }
 
+-- the forecastle is no broader than the ship
+pub fair-forecastle : (l : ℕ) (hs : List House) → GoodHouses l hs → FairBreadths (forecastleOf l hs)
+unfolding forecastleOf
+fair-forecastle l hs g = of-that FairBreadths (isForecastle l) hs (omega arith) (λ k h. fair-of (g .each k h))
+
 pub fair-deck : (l : ℕ) (hs : List House) → l ≤ 365000 → GoodHouses l hs → FairDeck l (deckOf l hs)
 unfolding deckOf forecastleOf
 fair-deck l hs p g = record {
@@ -47,7 +52,7 @@ fair-deck l hs p g = record {
   bottoms = summed-over l hs;
   e = rw (effective-summed l hs (good-fair l hs g)) (effective-length-most l hs g);
   reach = reach-most l hs g;
-  forecastle = fair-unrounded l (houseThat (isForecastle l) hs) (of-that FairBreadths (isForecastle l) hs (omega arith) (λ k h. fair-of (g .each k h))) p;
+  forecastle = fair-unrounded l (forecastleOf l hs) (fair-forecastle l hs g) p;
   part = part-most l (houseThat (isForecastle l) hs);
   height = of-that (λ h. h .height .0 ≤ 8191) (isForecastle l) hs (omega arith) (λ k h. g .each k h .height-most);
   amidships = fair-ratio l (amidshipsOf l hs);

@@ -114,7 +114,7 @@ module _ (s : List ℕ) (height wish : ℕ) where
       go true n = beside (fitsAt x height wish) (x .length .0) (shortestFor x height wish) (is-shortest x height wish) n
       go false n = refl
 
--- ---- a k fits by 9 to 13 and 18: 7, 22 and 8 pass on the ship with the poop as on the ship without
+-- ---- a k fits by 9 to 13, 18 and 23: 7, 22 and 8 pass on the ship with the poop as on the ship without
 fields-either : (x : Ship) (h : House) (b : Bool) → AllPass (fieldLines x) → AllPass (fieldLines (pick b x (withFirst h x)))
 unfolding withFirst pick
 fields-either x h true p = p

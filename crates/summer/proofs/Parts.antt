@@ -9,6 +9,7 @@ use Rattle.units.specs.Datum.{lift, sheerAt}
 use Rattle.percentages.specs.Table37.{ordinaryRow}
 use Rattle.ship.specs.declared.Ship.{Ship}
 use Rattle.ship.specs.Vessel.{housesOf}
+use Rattle.ship.specs.Good.{GoodHouses}
 use Rattle.houses.specs.Length.{partOf}
 use Rattle.houses.specs.Forecastle.{forecastleOf}
 use Rattle.houses.specs.Amidships.{amidshipsOf}
@@ -21,23 +22,24 @@ use Rattle.sheer.specs.Sheer as Sheer
 use Rattle.bow.specs.Bow.{higher, lower, sheerTaken, forecastleTaken, bowFreeboard}
 use Rattle.mark.specs.Summer.{summerMark}
 use Rattle.effective.proofs.Unrounded.{ratio-exact, unrounded-exact}
-use Rattle.summed.proofs.Sums.{effective-summed}
+use Rattle.summed.proofs.Sums.{good-fair, effective-summed}
 use Rattle.deck.specs.Deck.{deckOf}
+use Rattle.deck.proofs.Gathered.{fair-forecastle}
 use Rattle.steps.specs.Steps.{typeB, basis, coveredS, effectiveE, forecastleHouse, amidshipsRatio, coverReach, addedTo, takenFrom, bowOf, summerOf}
 use Rattle.hull.specs.Parts.{hullOf}
 use Rattle.summer.specs.Parts.{addedOn, takenOn, bowOn, summerOn}
 
 -- 31's ratio of heights and the forecastle's fraction in 37's test, however each is written
-taken-parts : (row : List ℕ) (x : Ship)
+taken-parts : (row : List ℕ) (x : Ship) → GoodHouses (x .length .0) (housesOf x)
     → let d = deckOf (x .length .0) (housesOf x) in
     takenOn row (hullOf x) (d .amidships) (d .forecastle .effective) (effectiveE x) (Sheer.deducted (x .sheer) (x .length .0) (coveredS x) (coverReach x))
     ≡ takenFrom row x
 unfolding takenOn hullOf deckOf takenFrom forecastleHouse amidshipsRatio deducted
-taken-parts row x =
+taken-parts row x g =
     let l = x .length .0 in
     ap₂ (λ (n : ℕ) (t : Bool). n + pick t 0 (deduction row l (effectiveE x)) + Sheer.deducted (x .sheer) l (coveredS x) (coverReach x))
     (reduction-same l (x .depth .0) (ratio-exact l (amidshipsOf l (housesOf x))))
-    (lacks-same (typeB x) l (unrounded-exact l (forecastleOf l (housesOf x))))
+    (lacks-same (typeB x) l (unrounded-exact l (forecastleOf l (housesOf x)) (fair-forecastle l (housesOf x) g)))
 
 bow-parts : (x : Ship) → bowOn (hullOf x) (deckOf (x .length .0) (housesOf x)) ≡ bowOf x
 unfolding bowOn hullOf deckOf bowOf forecastleHouse bowFreeboard
@@ -52,6 +54,8 @@ bow-parts x =
     ap (λ (n : ℕ). higher l (x .moulded .0) cb (x .waterplane) + sheerTaken (sheerAt (x .sheer) 4) lift - n) e
 
 -- the sums by kind give E
-pub summer-parts : (x : Ship) → summerOn (hullOf x) (deckOf (x .length .0) (housesOf x)) ≡ summerOf x
+pub summer-parts : (x : Ship) → GoodHouses (x .length .0) (housesOf x) → summerOn (hullOf x) (deckOf (x .length .0) (housesOf x)) ≡ summerOf x
 unfolding summerOn addedOn hullOf deckOf summerOf addedTo coveredS effectiveE coverReach Before.added Sheer.added Sheer.deducted
-summer-parts x = rw (effective-summed (x .length .0) (housesOf x)) (ap₂ (summerMark (basis x .floor) (addedTo (basis x .line) x)) (taken-parts ordinaryRow x) (bow-parts x))
+summer-parts x g =
+    rw (effective-summed (x .length .0) (housesOf x) (good-fair (x .length .0) (housesOf x) g))
+    (ap₂ (summerMark (basis x .floor) (addedTo (basis x .line) x)) (taken-parts ordinaryRow x g) (bow-parts x))

@@ -17,5 +17,8 @@ poop-good l height k p q h a b =
       fore-most = omega arith;
       height-least = a;
       height-most = b;
+      breadth-most = omega arith;
+      breadth-least = omega arith;
+      beam-most = omega arith;
       quarterdeck = λ e. absurd (true≢false (sym e));
     }

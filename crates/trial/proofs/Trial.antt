@@ -40,7 +40,7 @@ use Rattle.trial.proofs.Passing.{poop-good}
 abbrev lines : Ship → List Line
 lines y = markLines (particularsOf y) (summerOf y)
 
--- 9 to 11 and 18 pass: the marks decide
+-- 9 to 11, 18 and 23 pass: the marks decide
 houses-passed : (y : Ship) (wish : ℕ) → first (houseLines (y .length .0) (housesOf y)) ≡ accepted → within (lines y) (summerOf y) wish ≡ marksWithin y wish
 unfolding marksWithin within
 houses-passed y wish e =
@@ -54,7 +54,7 @@ module _ (x : Ship) (s : Sound x) (few : x .n < 8) (eight : length (x .houses) �
   fits-none : fitsOn (standingOf x height wish) 0 ≡ fitsAt x height wish 0
   unfolding fitsOn standingOf deckFor markedOn fitsAt withPoop hullOf pick
   fits-none =
-      rw (le-leb 0 (roomOf x) (omega arith), summer-parts x) (houses-passed x wish (lines-pass (x .length .0) (housesOf x) (s .good .houses)))
+      rw (le-leb 0 (roomOf x) (omega arith), summer-parts x (s .good .houses)) (houses-passed x wish (lines-pass (x .length .0) (housesOf x) (s .good .houses)))
 
   -- the first house, and the room before it
   first-house : 0 < x .n → houseAt (housesOf x) 0 ≡ houseAt (x .houses) 0
@@ -96,13 +96,13 @@ module _ (x : Ship) (s : Sound x) (few : x .n < 8) (eight : length (x .houses) �
           | no q ↦ omega (arith, room-whole (omega arith))
         ]
 
-    summer-with : summerOn (hullOf x) (deckFor (standingOf x height wish) k) ≡ summerOf (withFirst (poopHouse height k) x)
+    summer-with : 100 * k ≤ roomOf x → summerOn (hullOf x) (deckFor (standingOf x height wish) k) ≡ summerOf (withFirst (poopHouse height k) x)
     unfolding deckFor standingOf withFirst hullOf pick
-    summer-with =
+    summer-with h =
         let y = withFirst (poopHouse height k) x in
         let e : deckWith (x .length .0) (poopHouse height k) (deckOf (x .length .0) (housesOf x)) ≡ deckOf (x .length .0) (housesOf y) =
         deck-with (x .length .0) (poopHouse height k) (housesOf x) ∙ ap (deckOf (x .length .0)) (sym houses-with) in
-        rw (ne-eqb k 0 (λ z. omega arith)) (ap (summerOn (hullOf x)) e ∙ summer-parts y)
+        rw (ne-eqb k 0 (λ z. omega arith)) (ap (summerOn (hullOf x)) e ∙ summer-parts y (subst (GoodHouses (x .length .0)) (sym houses-with) (good-list h)))
 
     refused-with : roomOf x < 100 * k → marksWithin (withFirst (poopHouse height k) x) wish ≡ false
     unfolding marksWithin within withFirst
@@ -128,7 +128,7 @@ module _ (x : Ship) (s : Sound x) (few : x .n < 8) (eight : length (x .houses) �
           | yes t ↦ rw (z, lt-leb (100 * k) (roomOf x) t) (sym (refused-with t))
           | no t ↦
               (let g = subst (GoodHouses (x .length .0)) (sym houses-with) (good-list (omega arith)) in
-              rw (z, le-leb (100 * k) (roomOf x) (omega arith), summer-with) (houses-passed y wish (lines-pass (x .length .0) (housesOf y) g)))
+              rw (z, le-leb (100 * k) (roomOf x) (omega arith), summer-with (omega arith)) (houses-passed y wish (lines-pass (x .length .0) (housesOf y) g)))
         ]
 
     -- the deck of a list that is good leaves room

@@ -14,7 +14,7 @@ use Rattle.ship.specs.Checks.{houseLines}
 use Rattle.steps.specs.Steps.{summerOf, particularsOf}
 use Rattle.mark.specs.Others.{markLines}
 
--- an enclosed house, no raised quarterdeck, of the asked height, from 0 to 100k mm
+-- an enclosed house, no raised quarterdeck, of the asked height and full breadth, from 0 to 100k mm
 unfoldable pub poopHouse : ℕ → ℕ → House
 poopHouse height k = record {
   enclosed = true;
@@ -22,6 +22,8 @@ poopHouse height k = record {
   aft = record { 0 = stationOf 0 };
   fore = record { 0 = stationOf (100 * k) };
   height = record { 0 = height };
+  breadth = record { 0 = 0 };
+  beam = record { 0 = 0 };
 }
 
 -- a house set before the others
@@ -48,10 +50,10 @@ withPoop height k x = pick (eqb k 0) x (withFirst (poopHouse height k) x)
 unfoldable pub within : List Line → ℕ → ℕ → Bool
 within ts S wish = eqb (first ts .number) 0 && leb S wish
 
--- the whole calculation on a ship's list of houses, 9 to 13 and 18, gives marks with S at most the wish
+-- the whole calculation on a ship's list of houses, 9 to 13, 18 and 23, gives marks with S at most the wish
 unfoldable pub marksWithin : Ship → ℕ → Bool
 marksWithin y wish = within (houseLines (y .length .0) (housesOf y) ++ markLines (particularsOf y) (summerOf y)) (summerOf y) wish
 
--- k fits: any of 9 to 13 or 18 on the new list only makes it unfit
+-- k fits: any of 9 to 13, 18 or 23 on the new list only makes it unfit
 unfoldable pub fitsAt : Ship → ℕ → ℕ → ℕ → Bool
 fitsAt x height wish k = marksWithin (withPoop height k x) wish

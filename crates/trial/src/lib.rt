@@ -38,7 +38,7 @@ fn room_of(x: Ship) -> Span
     units::between(ap, h.aft)
 }
 
-// The poop of `k` decimetres.
+// The poop of `k` decimetres, of full breadth.
 fn poop_house(height: Span, k: u64) -> House
     requires { ⌜ k ≤ 3650 ⌝ }
     ensures { λ r. ⌜ r ≡ poopHouse (height .0) k ⌝ }
@@ -51,6 +51,8 @@ fn poop_house(height: Span, k: u64) -> House
         aft,
         fore,
         height,
+        breadth: Span(0),
+        beam: Span(0),
     }
 }
 
@@ -103,7 +105,7 @@ fn marked(q: Standing, s: u64) -> bool
     }
 }
 
-// Whether a poop of `k` decimetres fits. Of checks 9 to 11 and 18 only the overlap with the first house can refuse it.
+// Whether a poop of `k` decimetres fits. Of checks 9 to 11, 18 and 23 only the overlap with the first house can refuse it.
 pub fn fits(q: Standing, k: u64) -> bool
     requires { ⌜ Fair q × (100 * k ≤ q .hull .length .0) ⌝ }
     ensures { λ r. ⌜ r ≡ fitsOn q k ⌝ }

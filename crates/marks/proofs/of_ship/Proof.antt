@@ -33,6 +33,6 @@ of-ship-spec =
     let h = d .before in
     let s = h .before .before in
     let x = s .args .x in
-    let summer : m .summer-on .result ≡ summerOf x = m .summer-on .ensures ∙ ap₂ summerOn (h .hull-of .ensures .0) (d .deck-of .ensures .0) ∙ summer-parts x in
+    let summer : m .summer-on .result ≡ summerOf x = m .summer-on .ensures ∙ ap₂ summerOn (h .hull-of .ensures .0) (d .deck-of .ensures .0) ∙ summer-parts x (s .pre .good .houses) in
     let e = c .follow .ensures ∙ ap₂ sheetAt (p .particulars-of .ensures) summer in
     (e, bounded x (s .pre) (c .follow .result) e)))

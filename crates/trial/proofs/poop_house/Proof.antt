@@ -22,4 +22,6 @@ poop-house-spec =
       aft = record { 0 = a .forward-of-ap .ensures i };
       fore = record { 0 = fore i };
       height = a .before .args .height;
+      breadth = record { 0 = 0 };
+      beam = record { 0 = 0 };
     }))

@@ -1,12 +1,14 @@
 -- Laws of lists that are filled from the front, by a loop or part by part.
-use Prim.Native.Nat.{ℕ, _+_, _≤_, _<_}
+use Prim.Native.Nat.{ℕ, _+_, _-_, _≤_, _<_}
 use mathlib.Core.List.{List, _++_, append-assoc, append-nil}
-use mathlib.Core.Path.{_≡_, sym, _∙_}
-use lib.ListN.{length, take, drop, getD, set, drop-of-length-le}
-use lib.Seq.{paste-suc, take-all, take-at, drop-at, drop-drop}
+use mathlib.Core.Path.{_≡_, sym, ap, ap₂, _∙_}
+use lib.ListN.{length, take, drop, getD, set, length-append, length-drop, drop-of-length-le}
+use lib.Seq.{length-take-le, paste-suc, take-all, take-at, drop-at, drop-drop}
 use native.Mathlib.Nat.{zero-add}
 use native.Mathlib.Numerals.{add-one}
 use native.Mathlib.Omega.{arith}
+use Rattle.bits.specs.Fields.{bytes}
+use Rattle.bits.proofs.Radix.{length-bytes}
 
 -- one byte more is filled
 pub fill-step : (d s : List ℕ) (j : ℕ) → j < length d → j < length s
@@ -27,3 +29,18 @@ pub two-parts : (d p q : List ℕ) (a b : ℕ) → length p ≡ a → length d �
     → let x = p ++ drop a d in
     take a x ++ (q ++ drop b (drop a x)) ≡ p ++ q
 two-parts d p q a b lp ld = part-back p (drop a d) q a b lp ∙ rw (drop-drop b a d, drop-of-length-le d {i = a + b} (omega arith)) (append-nil (p ++ q))
+
+-- two words over two parts of a slice that they fill
+pub two-words : (d : List ℕ) (a A B : ℕ) {p q : List ℕ} → a ≤ length d
+    → let x = p ++ drop a d in
+    p ≡ bytes (length (take a d)) A → q ≡ bytes (length (take (length x - a) (drop a x))) B
+    → take a x ++ (q ++ drop (length x - a) (drop a x)) ≡ bytes a A ++ bytes (length d - a) B
+two-words d a A B {p} {q} h ep eq =
+    let x : List ℕ = p ++ drop a d in
+    let b : ℕ = length d - a in
+    let p′ : p ≡ bytes a A = ep ∙ ap (λ (k : ℕ). bytes k A) (length-take-le a d h) in
+    let lp : length p ≡ a = ap length p′ ∙ length-bytes a A in
+    let lx : length x - a ≡ b = omega (arith, length-append p (drop a d), length-drop a d) in
+    let lq : length (take (length x - a) (drop a x)) ≡ b = length-take-le (length x - a) (drop a x) (omega (arith, length-drop a x)) ∙ lx in
+    ap (λ (m : ℕ). take a x ++ (q ++ drop m (drop a x))) lx
+    ∙ two-parts d p q a b lp (omega arith) ∙ ap₂ _++_ p′ (eq ∙ ap (λ (k : ℕ). bytes k B) lq)

@@ -1,6 +1,7 @@
 // Numbers in bytes, the most significant byte first. Fields of bits side by side are numbers too (specs/Fields.antt).
 ghost use mathlib.Core.Path.{_≡_};
-ghost use Prim.Native.Nat.{_≤_, _<_};
+ghost use Prim.Native.Nat.{_-_, _≤_, _<_};
+ghost use mathlib.Core.List.{_++_};
 ghost use lib.ListN.{length};
 ghost use Rattle.bits.specs.Fields.{number, bytes};
 
@@ -36,4 +37,13 @@ pub fn put_word(out: &mut [u8], n: u64)
         out[j] = ((n >> after) % 256) as u8;
         j += 1;
     }
+}
+
+// Writes two words over the whole of `out`, the second from byte `at` on.
+pub fn put_two(out: &mut [u8], at: usize, a: u64, b: u64)
+    requires { ⌜ (at ≤ 8) × (at ≤ length (now out)) × (length (now out) - at ≤ 8) ⌝ }
+    ensures { λ _. ⌜ now (out .exit) ≡ bytes at a ++ bytes (length (now (out .entry)) - at) b ⌝ }
+{
+    put_word(&mut out[..at], a);
+    put_word(&mut out[at..], b);
 }

@@ -18,22 +18,7 @@ use Rattle.record.specs.Words.{firstWidths, fullnessWidths, fourWidths, lastWid
 use Rattle.record.proofs.Parts.{eight-bits}
 use Rattle.bits.proofs.Cut.{value-cut}
 
--- two words over two parts of a slice that they fill
-pub two-words : (d : List ℕ) (a A B : ℕ) {p q : List ℕ} → a ≤ length d
-    → let x = p ++ drop a d in
-    p ≡ bytes (length (take a d)) A → q ≡ bytes (length (take (length x - a) (drop a x))) B
-    → take a x ++ (q ++ drop (length x - a) (drop a x)) ≡ bytes a A ++ bytes (length d - a) B
-two-words d a A B {p} {q} h ep eq =
-    let x : List ℕ = p ++ drop a d in
-    let b : ℕ = length d - a in
-    let p′ : p ≡ bytes a A = ep ∙ ap (λ (k : ℕ). bytes k A) (length-take-le a d h) in
-    let lp : length p ≡ a = ap length p′ ∙ length-bytes a A in
-    let lx : length x - a ≡ b = omega (arith, length-append p (drop a d), length-drop a d) in
-    let lq : length (take (length x - a) (drop a x)) ≡ b = length-take-le (length x - a) (drop a x) (omega (arith, length-drop a x)) ∙ lx in
-    ap (λ (m : ℕ). take a x ++ (q ++ drop m (drop a x))) lx
-    ∙ two-parts d p q a b lp (omega arith) ∙ ap₂ _++_ p′ (eq ∙ ap (λ (k : ℕ). bytes k B) lq)
-
--- and two such pairs over the head's 27 bytes
+-- two pairs of words over the head's 27 bytes
 pub two-halves : (d : List ℕ) (A B C D : ℕ) {p q : List ℕ} → length d ≡ 27
     → let x = p ++ drop 12 d in
     p ≡ bytes 8 A ++ bytes (length (take 12 d) - 8) B → q ≡ bytes 7 C ++ bytes (length (take 15 (drop 12 x)) - 7) D

@@ -1,7 +1,6 @@
 // The head of a record as four words, written over its 27 bytes: in a word each field shifts those before it up by its range.
 ghost use mathlib.Core.Path.{_≡_};
 ghost use Prim.Native.Nat.{_-_, _≤_, _<_};
-ghost use mathlib.Core.List.{_++_};
 ghost use lib.ListN.{length, take};
 ghost use Rattle.bits.specs.Fields.{pack, bytes, Fit};
 ghost use Rattle.record.specs.Layout.{openingWidths, headWidths, headFields, headBytes};
@@ -62,15 +61,6 @@ fn last_word(h: Head) -> u64
     word * range::IMMERSION + h.immersion
 }
 
-// Writes two words over the whole of `out`, the second from byte `at` on.
-fn put_two(out: &mut [u8], at: usize, a: u64, b: u64)
-    requires { ⌜ (at ≤ 8) × (at ≤ length (now out)) × (length (now out) - at ≤ 8) ⌝ }
-    ensures { λ _. ⌜ now (out .exit) ≡ bytes at a ++ bytes (length (now (out .entry)) - at) b ⌝ }
-{
-    bits::put_word(&mut out[..at], a);
-    bits::put_word(&mut out[at..], b);
-}
-
 // Writes a head over 27 bytes.
 pub fn write(out: &mut [u8], h: Head)
     requires { ⌜ (length (now out) ≡ 27) × Fit (headWidths (h .version)) (headFields h) ⌝ }
@@ -80,6 +70,6 @@ pub fn write(out: &mut [u8], h: Head)
     let fullness = fullness_word(h);
     let four = four_word(h);
     let last = last_word(h);
-    put_two(&mut out[0..12], 8, first, fullness);
-    put_two(&mut out[12..27], 7, four, last);
+    bits::put_two(&mut out[0..12], 8, first, fullness);
+    bits::put_two(&mut out[12..27], 7, four, last);
 }

@@ -27,8 +27,8 @@ pub record Framed (s : List ℕ) : Type 0 where
   pub last : headIn s .version ≤ lastVersion
   pub type : headIn s .kind ≤ lastTypeIn (headIn s .version)
   pub few : headIn s .count ≤ 8
-  pub exact : length s ≡ recordLength (headIn s .count)
-  pub blank : headIn s .spare + sparesIn s (headIn s .count) ≡ 0
+  pub exact : length s ≡ recordLength (headIn s .version) (headIn s .count)
+  pub blank : headIn s .spare + sparesIn (headIn s .version) s (headIn s .count) ≡ 0
 
 pub frame-passed : (s : List ℕ) → AllPass (frameLines s) → Framed s
 frame-passed s p =
@@ -40,7 +40,7 @@ frame-passed s p =
       last = ltb-false lastVersion v (known .1);
       type = ltb-false (lastTypeIn v) (headIn s .kind) (p .1 .1 .0);
       few = ltb-false 8 (headIn s .count) (p .1 .1 .1 .0);
-      exact = eqb-true (length s) (recordLength (headIn s .count)) (not-false (eqb (length s) (recordLength (headIn s .count))) (p .1 .1 .1 .1 .0));
+      exact = eqb-true (length s) (recordLength v (headIn s .count)) (not-false (eqb (length s) (recordLength v (headIn s .count))) (p .1 .1 .1 .1 .0));
       blank = eqb-true _ 0 (not-false _ (p .1 .1 .1 .1 .1 .0));
     }
 
@@ -60,7 +60,7 @@ frame-passes s f =
           le-ltb (lastTypeIn (headIn s .version)) (headIn s .kind) (f .type),
           (
             le-ltb 8 (headIn s .count) (f .few),
-            (ap not (eq-eqb (length s) (recordLength (headIn s .count)) (f .exact)), (ap not (eq-eqb (headIn s .spare + sparesIn s (headIn s .count)) 0 (f .blank)), tt)),
+            (ap not (eq-eqb (length s) (recordLength (headIn s .version) (headIn s .count)) (f .exact)), (ap not (eq-eqb (headIn s .spare + sparesIn (headIn s .version) s (headIn s .count)) 0 (f .blank)), tt)),
           ),
         ),
       ),

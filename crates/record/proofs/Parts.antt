@@ -4,31 +4,32 @@ use mathlib.Core.List.{List, [], _∷_}
 use mathlib.Core.Path.{_≡_, refl, ap}
 use lib.ListN.{length, take, drop, getD, length-append}
 use native.Mathlib.Omega.{arith}
-use lib.Dec.{eqb}
+use lib.Dec.{eqb, leb}
 use lib.Pow.{pow-mono}
 use native.Mathlib.Nat.{lt-of-lt-of-le}
-use Rattle.whole.proofs.Pick.{by-both}
+use Rattle.whole.proofs.Pick.{by-cases, by-both}
 use Rattle.bits.specs.Fields.{total, number, piece, pack, unpack}
 use Rattle.bits.proofs.Radix.{length-bytes, fit-unpack, fit-each}
 use Rattle.ship.specs.declared.House.{House}
 use Rattle.record.specs.declared.Head.{Head}
-use Rattle.record.specs.Layout.{kindBits, spareBits, headWidths, houseWidths, houseFields, houseBytes, housesBytes, housesIn, headFields, headBytes, versionIn, headIn}
+use Rattle.record.specs.Layout.{kindBits, spareBits, breadthBits, houseSize, headWidths, houseWidths, houseFields, houseBytes, housesBytes, housesIn, headFields, headBytes, versionIn, headIn}
 
-pub length-houseBytes : (h : House) → length (houseBytes h) ≡ 8
+pub length-houseBytes : (version : ℕ) (h : House) → length (houseBytes version h) ≡ houseSize version
 unfolding houseBytes
-length-houseBytes h = length-bytes 8 (pack houseWidths (houseFields h))
+length-houseBytes version h = length-bytes (houseSize version) (pack (houseWidths version) (houseFields h))
 
-pub length-housesBytes : (hs : List House) → length (housesBytes hs) ≡ 8 * length hs
-length-housesBytes [] = refl
-length-housesBytes (h ∷ hs) = omega (arith, length-append (houseBytes h) (housesBytes hs), length-houseBytes h, length-housesBytes hs)
+pub length-housesBytes : (version : ℕ) (hs : List House) → length (housesBytes version hs) ≡ houseSize version * length hs
+length-housesBytes version [] = omega arith
+length-housesBytes version (h ∷ hs) =
+    omega (arith, length-append (houseBytes version h) (housesBytes version hs), length-houseBytes version h, length-housesBytes version hs)
 
 pub length-headBytes : (h : Head) → length (headBytes h) ≡ 27
 unfolding headBytes
 length-headBytes h = length-bytes 27 (pack (headWidths (h .version)) (headFields h))
 
-pub length-housesIn : (n : ℕ) (t : List ℕ) → length (housesIn n t) ≡ n
-length-housesIn zero t = refl
-length-housesIn (suc n) t = ap suc (length-housesIn n (drop 8 t))
+pub length-housesIn : (version n : ℕ) (t : List ℕ) → length (housesIn version n t) ≡ n
+length-housesIn version zero t = refl
+length-housesIn version (suc n) t = ap suc (length-housesIn version n (drop (houseSize version) t))
 
 -- ---- a version's widths
 -- what the type has more, the spare has less
@@ -39,6 +40,16 @@ eight-bits version = by-both (λ (a b : ℕ). (a + b ≡ 8) × (a ≤ 3) × (b �
 -- so every head fills its 27 bytes
 pub head-total : (version : ℕ) → total (headWidths version) ≡ 8 * 27
 head-total version = omega (arith, eight-bits version)
+
+-- and every house its own
+pub house-total : (version : ℕ) → total (houseWidths version) ≡ 8 * houseSize version
+unfolding breadthBits houseSize
+house-total version = by-both (λ (w n : ℕ). 1 + (1 + (21 + (21 + (13 + (7 + (w + (w + 0))))))) ≡ 8 * n) (leb version 2) 0 16 8 12 (λ t. refl) (λ t. refl)
+
+-- the eight bytes, and in version 3 the breadths behind them
+pub size-within : (version : ℕ) → (8 ≤ houseSize version) × (houseSize version ≤ 12)
+unfolding houseSize
+size-within version = by-cases (λ (n : ℕ). (8 ≤ n) × (n ≤ 12)) (leb version 2) _ _ (λ t. omega arith) (λ t. omega arith)
 
 -- the bits of the head's fields
 abbrev pub fieldsIn : List ℕ → List ℕ

@@ -66,11 +66,13 @@ abbrev pub signedAt : List ℕ → ℕ → ℕ → ℤ
 signedAt ws n k = complement (getD ws k 0) (getD (unpack ws n) k 0)
 
 -- a house's ends, 21 bits each, in mm forward of the after perpendicular
-pub ends-signed : (t : List ℕ) → (mmOf (houseIn t .aft .0) ≡ signedAt houseWidths (number t) 2) × (mmOf (houseIn t .fore .0) ≡ signedAt houseWidths (number t) 3)
+pub ends-signed : (version : ℕ) (t : List ℕ)
+    → (mmOf (houseIn version t .aft .0) ≡ signedAt (houseWidths version) (number t) 2) × (mmOf (houseIn version t .fore .0) ≡ signedAt (houseWidths version) (number t) 3)
 unfolding houseIn
-ends-signed t =
-    let w = fit-each houseWidths (unpack houseWidths (number t)) (fit-unpack houseWidths (number t)) in
-    (turned-signed 21 (omega arith) (getD (unpack houseWidths (number t)) 2 0) (w 2), turned-signed 21 (omega arith) (getD (unpack houseWidths (number t)) 3 0) (w 3))
+ends-signed version t =
+    let ws = houseWidths version in
+    let w = fit-each ws (unpack ws (number t)) (fit-unpack ws (number t)) in
+    (turned-signed 21 (omega arith) (getD (unpack ws (number t)) 2 0) (w 2), turned-signed 21 (omega arith) (getD (unpack ws (number t)) 3 0) (w 3))
 
 -- the six ordinates of sheer, 14 bits each, in mm
 pub sheer-signed : (s : List ℕ) (k : ℕ) → k < 6 → sheerOf (sheerAt (headIn s .sheer) k) ≡ signedAt (headWidths (versionIn s)) (number (take 27 s)) (9 + k)

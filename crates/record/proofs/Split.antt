@@ -9,9 +9,9 @@ use Rattle.ship.specs.Refusals.{Paper, Line, refused, first}
 use Rattle.ship.specs.Checks.{fieldLines, shipLines}
 use Rattle.ship.proofs.Lines.{Each}
 use Rattle.ship.proofs.Split.{Split, Plain, shipLines01, split-lines}
-use Rattle.record.specs.Layout.{recordLength, lastType, mostHouses, shipIn}
+use Rattle.record.specs.Layout.{lastType, mostHouses, shipIn}
 use Rattle.record.specs.Reading.{frameLines, readingIn}
-use Rattle.record.specs.Writing.{writeLinesWith, writingOf}
+use Rattle.record.specs.Writing.{bytesFor, writeLinesWith, writingOf}
 
 -- of a ship
 abbrev pub SplitOn : Ship → Paper → Paper → Type 0
@@ -32,4 +32,4 @@ pub split-write : (room : ℕ) (x : Ship) → SplitOn x (writingOf room x) (firs
 unfolding writingOf
 split-write room x =
     split-lines (x .length .0) (housesOf x)
-    ((ltb lastType (x .kind), refused 3 0) ∷ (ltb mostHouses (x .n), refused 4 0) ∷ fieldLines x) ((ltb room (recordLength (x .n)), refused 17 0) ∷ []) (omega arith) (omega arith)
+    ((ltb lastType (x .kind), refused 3 0) ∷ (ltb mostHouses (x .n), refused 4 0) ∷ fieldLines x) ((ltb room (bytesFor x), refused 17 0) ∷ []) (omega arith) (omega arith)

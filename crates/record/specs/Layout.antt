@@ -1,11 +1,11 @@
--- 01, "Ship record, version 1", and 02 §5's version 2: bit-packed, most significant bit first, signed fields in two's complement.
-use Prim.Native.Nat.{ℕ, zero, suc, _+_, _-_, _*_, _%_, _<_}
-use mathlib.Core.Bool.{Bool, true, false}
+-- 01, "Ship record, version 1", with 02 §5's version 2 and §6's version 3: bit-packed, most significant bit first, signed fields in two's complement.
+use Prim.Native.Nat.{ℕ, zero, suc, _+_, _-_, _*_, _%_, _≤_, _<_}
+use mathlib.Core.Bool.{Bool, true, false, not, _||_}
 use mathlib.Core.List.{List, [], _∷_, _++_}
 use lib.ListN.{length, take, drop, getD, replicate}
-use lib.Dec.{eqb, ltb}
+use lib.Dec.{eqb, ltb, leb}
 use Rattle.whole.specs.Pick.{pick}
-use Rattle.bits.specs.Fields.{number, piece, unpack, pack, bytes}
+use Rattle.bits.specs.Fields.{number, piece, unpack, pack, bytes, Fit}
 use Rattle.units.specs.declared.Station.{Station}
 use Rattle.units.specs.declared.Ordinate.{Ordinate}
 use Rattle.units.specs.Datum.{datum, lift, sheerAt}
@@ -13,17 +13,17 @@ use Rattle.ship.specs.declared.House.{House}
 use Rattle.ship.specs.declared.Ship.{Ship}
 use Rattle.ship.specs.Kinds.{kindB, kindCovers}
 use Rattle.ship.specs.Vessel as Vessel
-use Rattle.ship.specs.Vessel.{noHouse, housesOf}
+use Rattle.ship.specs.Vessel.{noHouse, fullBreadth, housesOf}
 use Rattle.record.specs.declared.Head.{Head}
 
--- the type has 2 bits in version 1, and 3 in version 2, which has one spare bit less
+-- the type has 2 bits in version 1, and 3 from version 2 on, which has one spare bit less
 unfoldable pub kindBits : ℕ → ℕ
 kindBits version = pick (eqb version 1) 2 3
 
 unfoldable pub spareBits : ℕ → ℕ
 spareBits version = pick (eqb version 1) 6 5
 
--- version, type, houses n, spare: 4, 2, 4, 6 bits in version 1, and 4, 3, 4, 5 in version 2
+-- version, type, houses n, spare: 4, 2, 4, 6 bits in version 1, and 4, 3, 4, 5 from version 2 on
 abbrev pub openingWidths : ℕ → List ℕ
 openingWidths version = 4 ∷ kindBits version ∷ 4 ∷ spareBits version ∷ []
 
@@ -32,17 +32,25 @@ abbrev pub headWidths : ℕ → List ℕ
 headWidths version =
     openingWidths version ++ (20 ∷ 16 ∷ 16 ∷ 14 ∷ 14 ∷ 14 ∷ 14 ∷ 14 ∷ 14 ∷ 14 ∷ 14 ∷ 20 ∷ 16 ∷ [])
 
--- enclosed, raised quarterdeck, aft end, fore end, height, spare
-abbrev pub houseWidths : List ℕ
-houseWidths = 1 ∷ 1 ∷ 21 ∷ 21 ∷ 13 ∷ 7 ∷ []
+-- a breadth has 16 bits in version 3. The versions before it have none for it, and a field of no bits is 0: they hold full breadth alone
+unfoldable pub breadthBits : ℕ → ℕ
+breadthBits version = pick (leb version 2) 0 16
 
--- 27 bytes, then 8 for each of n houses
-abbrev pub recordLength : ℕ → ℕ
-recordLength n = 27 + 8 * n
+-- enclosed, raised quarterdeck, aft end, fore end, height, spare; then the breadths, house and ship
+abbrev pub houseWidths : ℕ → List ℕ
+houseWidths version = 1 ∷ 1 ∷ 21 ∷ 21 ∷ 13 ∷ 7 ∷ breadthBits version ∷ breadthBits version ∷ []
+
+-- so a house has 8 bytes, and 12 in version 3
+unfoldable pub houseSize : ℕ → ℕ
+houseSize version = pick (leb version 2) 8 12
+
+-- 27 bytes, then those of n houses
+abbrev pub recordLength : ℕ → ℕ → ℕ
+recordLength version n = 27 + houseSize version * n
 
 -- the last version; the last type, of all and of those that a version holds; the most houses
 abbrev pub lastVersion : ℕ
-lastVersion = 2
+lastVersion = 3
 
 abbrev pub lastType : ℕ
 lastType = kindCovers
@@ -69,10 +77,12 @@ abbrev pub bit : Bool → ℕ
 bit true = 1
 bit false = 0
 
--- ---- a house in eight bytes
+-- ---- a house in its bytes
 -- its fields in the record's order
 abbrev pub houseFields : House → List ℕ
-houseFields h = bit (h .enclosed) ∷ bit (h .quarterdeck) ∷ turn datum (h .aft .0) ∷ turn datum (h .fore .0) ∷ h .height .0 ∷ 0 ∷ []
+houseFields h =
+    bit (h .enclosed) ∷ bit (h .quarterdeck) ∷ turn datum (h .aft .0) ∷ turn datum (h .fore .0) ∷ h .height .0 ∷ 0
+    ∷ h .breadth .0 ∷ h .beam .0 ∷ []
 
 -- and the house of such a list
 abbrev pub houseOf : List ℕ → House
@@ -82,34 +92,36 @@ houseOf f = record {
   aft = stationIn (getD f 2 0);
   fore = stationIn (getD f 3 0);
   height = record { 0 = getD f 4 0 };
+  breadth = record { 0 = getD f 6 0 };
+  beam = record { 0 = getD f 7 0 };
 }
 
-unfoldable pub houseBytes : House → List ℕ
-houseBytes h = bytes 8 (pack houseWidths (houseFields h))
+unfoldable pub houseBytes : ℕ → House → List ℕ
+houseBytes version h = bytes (houseSize version) (pack (houseWidths version) (houseFields h))
 
-unfoldable pub houseIn : List ℕ → House
-houseIn t = houseOf (unpack houseWidths (number t))
+unfoldable pub houseIn : ℕ → List ℕ → House
+houseIn version t = houseOf (unpack (houseWidths version) (number t))
 
 -- the spare bits of a house
-unfoldable pub spareIn : List ℕ → ℕ
-spareIn t = getD (unpack houseWidths (number t)) 5 0
+unfoldable pub spareIn : ℕ → List ℕ → ℕ
+spareIn version t = getD (unpack (houseWidths version) (number t)) 5 0
 
--- the eight bytes of the house at place k
-abbrev pub houseAt : List ℕ → ℕ → List ℕ
-houseAt s k = take 8 (drop (recordLength k) s)
+-- the bytes of the house at place k
+abbrev pub houseAt : ℕ → List ℕ → ℕ → List ℕ
+houseAt version s k = take (houseSize version) (drop (recordLength version k) s)
 
 -- ---- houses, one after the other
-abbrev pub housesBytes : List House → List ℕ
-housesBytes [] = []
-housesBytes (h ∷ hs) = houseBytes h ++ housesBytes hs
+abbrev pub housesBytes : ℕ → List House → List ℕ
+housesBytes version [] = []
+housesBytes version (h ∷ hs) = houseBytes version h ++ housesBytes version hs
 
-abbrev pub housesIn : ℕ → List ℕ → List House
-housesIn zero t = []
-housesIn (suc n) t = houseIn (take 8 t) ∷ housesIn n (drop 8 t)
+abbrev pub housesIn : ℕ → ℕ → List ℕ → List House
+housesIn version zero t = []
+housesIn version (suc n) t = houseIn version (take (houseSize version) t) ∷ housesIn version n (drop (houseSize version) t)
 
--- every height stands within its bits
-pub record Low (hs : List House) : Type 0 where
-  pub each : (k : ℕ) → k < length hs → Vessel.houseAt hs k .height .0 < 8192
+-- every number of a house stands within its bits
+pub record HousesFit (version : ℕ) (hs : List House) : Type 0 where
+  pub each : (k : ℕ) → k < length hs → Fit (houseWidths version) (houseFields (Vessel.houseAt hs k))
 
 -- ---- the head in 27 bytes
 -- its fields in the record's order
@@ -168,13 +180,22 @@ headFor version x = record {
   immersion = x .immersion;
 }
 
--- the lowest version that holds a ship of a type
-unfoldable pub lowestFor : ℕ → ℕ
-lowestFor kind = pick (ltb (lastTypeIn 1) kind) 2 1
+-- a version holds a ship if it has the ship's type, and bits enough for its houses
+abbrev pub Holds : ℕ → Ship → Type 0
+Holds version x = (x .kind ≤ lastTypeIn version) × HousesFit version (housesOf x)
+
+-- some house of a list has breadths
+unfoldable pub anySetIn : List House → Bool
+anySetIn [] = false
+anySetIn (h ∷ hs) = not (fullBreadth h) || anySetIn hs
+
+-- the lowest version that holds a ship: its first n houses decide, and its type
+unfoldable pub lowestFor : Ship → ℕ
+lowestFor x = pick (anySetIn (housesOf x)) 3 (pick (ltb (lastTypeIn 1) (x .kind)) 2 1)
 
 -- a ship's record is in the lowest version that holds it
 abbrev pub shipHead : Ship → Head
-shipHead x = headFor (lowestFor (x .kind)) x
+shipHead x = headFor (lowestFor x) x
 
 abbrev pub shipOf : Head → List House → Ship
 shipOf h hs = record {
@@ -192,11 +213,11 @@ shipOf h hs = record {
 }
 
 -- the eight places of a record with n houses, those beyond n at zero
-unfoldable pub placesIn : ℕ → List ℕ → List House
-placesIn n s = housesIn n (drop 27 s) ++ replicate (8 - n) noHouse
+unfoldable pub placesIn : ℕ → ℕ → List ℕ → List House
+placesIn version n s = housesIn version n (drop 27 s) ++ replicate (8 - n) noHouse
 
 unfoldable pub shipIn : List ℕ → Ship
-shipIn s = shipOf (headIn s) (placesIn (headIn s .count) s)
+shipIn s = shipOf (headIn s) (placesIn (headIn s .version) (headIn s .count) s)
 
 unfoldable pub recordBytes : Ship → List ℕ
-recordBytes x = headBytes (shipHead x) ++ housesBytes (housesOf x)
+recordBytes x = headBytes (shipHead x) ++ housesBytes (lowestFor x) (housesOf x)

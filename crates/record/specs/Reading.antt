@@ -1,4 +1,4 @@
--- 01, "Refusals and their order", with 02: reading uses 1 to 11, 22 after 7, and 18 with 11.
+-- 01, "Refusals and their order", with 02: reading uses 1 to 11, 22 after 7, 23 after 9, and 18 with 11.
 use Prim.Native.Nat.{ℕ, zero, suc, _+_}
 use mathlib.Core.Bool.{not, _||_}
 use mathlib.Core.List.{List, [], _∷_, _++_}
@@ -13,9 +13,9 @@ use Rattle.record.specs.declared.Head.{Head}
 use Rattle.record.specs.Layout.{recordLength, lastVersion, lastTypeIn, mostHouses, headIn, spareIn, houseAt, shipIn}
 
 -- the spare bits of the first k houses, added up: 0 where none is set
-unfoldable pub sparesIn : List ℕ → ℕ → ℕ
-sparesIn s zero = 0
-sparesIn s (suc k) = sparesIn s k + spareIn (houseAt s k)
+unfoldable pub sparesIn : ℕ → List ℕ → ℕ → ℕ
+sparesIn version s zero = 0
+sparesIn version s (suc k) = sparesIn version s k + spareIn version (houseAt version s k)
 
 -- 2 to 5: what the head of a record of so many bytes shows
 abbrev pub headLines : Head → ℕ → List Line
@@ -23,12 +23,12 @@ headLines h bytes =
     (eqb (h .version) 0 || ltb lastVersion (h .version), refused 2 0)
     ∷ (ltb (lastTypeIn (h .version)) (h .kind), refused 3 0)
     ∷ (ltb mostHouses (h .count), refused 4 0)
-    ∷ (not (eqb bytes (recordLength (h .count))), refused 5 0)
+    ∷ (not (eqb bytes (recordLength (h .version) (h .count))), refused 5 0)
     ∷ []
 
 -- 6: a spare bit set, in the head or in a house
 abbrev pub spareLine : Head → List ℕ → Line
-spareLine h s = (not (eqb (h .spare + sparesIn s (h .count)) 0), refused 6 0)
+spareLine h s = (not (eqb (h .spare + sparesIn (h .version) s (h .count)) 0), refused 6 0)
 
 -- 1 to 6: what the bytes show before they are read as a ship
 abbrev pub frameLines : List ℕ → List Line

@@ -46,7 +46,7 @@ pub const FORWARD_END: u64 = DISPLACEMENT + width::DISPLACEMENT;
 
 pub const FORWARD_SIXTH: u64 = FORWARD_END + width::ORDINATE;
 
-// ---- the eight bytes of a house: enclosed, raised quarterdeck, aft end, fore end, height, spare
+// ---- the first eight bytes of a house: enclosed, raised quarterdeck, aft end, fore end, height, spare
 pub const HEIGHT: u64 = width::HOUSE_SPARE;
 
 pub const FORE: u64 = HEIGHT + width::HEIGHT;
@@ -56,3 +56,6 @@ pub const AFT: u64 = FORE + width::END;
 pub const QUARTERDECK: u64 = AFT + width::END;
 
 pub const ENCLOSED: u64 = QUARTERDECK + width::FLAG;
+
+// ---- and in version 3 the four behind them: the breadths, house and ship
+pub const BREADTH: u64 = width::BREADTH;

@@ -1,10 +1,13 @@
-// The layout of the ship record, versions 1 and 2: a head, then the houses. Reader and writer take the width and the place of every field from here.
+// The layout of the ship record, versions 1 to 3: a head, then the houses. Reader and writer take the width and the place of every field from here.
 ghost use mathlib.Core.Path.{_≡_};
 ghost use Prim.Native.Nat.{_*_, _≤_, _<_};
 ghost use lib.Dec.{eqb};
+ghost use lib.ListN.{take};
 ghost use Rattle.whole.specs.Pick.{pick};
 ghost use Rattle.units.specs.Datum.{datum, lift};
-ghost use Rattle.record.specs.Layout.{lastTypeIn, lowestFor, turn, bit};
+ghost use Rattle.record.specs.Layout.{lastTypeIn, houseSize, anySetIn, lowestFor, turn, bit};
+use ship::House;
+use ship::Ship;
 use ship::kind;
 use units::AP;
 use units::LIFT;
@@ -16,17 +19,21 @@ pub mod after;
 pub mod range;
 pub mod width;
 
-// Bytes of the head, and of each house.
+// Bytes of the head, of a house without its breadths, and of the two breadths.
 pub const HEAD_BYTES: usize = 27;
 
 pub const HOUSE_BYTES: usize = 8;
+
+pub const BREADTH_BYTES: usize = 4;
 
 // The versions; the last of the types; the most houses.
 pub const FIRST_VERSION: u64 = 1;
 
 pub const SECOND_VERSION: u64 = 2;
 
-pub const LAST_VERSION: u64 = SECOND_VERSION;
+pub const THIRD_VERSION: u64 = 3;
+
+pub const LAST_VERSION: u64 = THIRD_VERSION;
 
 pub const LAST_TYPE: u64 = kind::PORTABLE_COVERS;
 
@@ -70,15 +77,46 @@ pub fn last_type_in(version: u64) -> u64
     by_version(version, kind::B, LAST_TYPE)
 }
 
-// The lowest version that holds a ship of a type.
-pub fn lowest_for(kind: u64) -> u64
-    ensures { λ r. ⌜ r ≡ lowestFor kind ⌝ }
+// How many bytes a house has in a version.
+pub fn house_bytes(version: u64) -> usize
+    ensures { λ r. ⌜ (r ≡ houseSize version) × (8 ≤ r) × (r ≤ 12) ⌝ }
 {
-    if kind > last_type_in(FIRST_VERSION) {
-        SECOND_VERSION
+    if version <= SECOND_VERSION {
+        HOUSE_BYTES
     } else {
-        FIRST_VERSION
+        HOUSE_BYTES + BREADTH_BYTES
     }
+}
+
+// Whether some of the first `n` houses have breadths.
+fn any_set_in(houses: [House; 8], n: usize) -> bool
+    requires { ⌜ n ≤ 8 ⌝ }
+    ensures { λ r. ⌜ r ≡ anySetIn (take n houses) ⌝ }
+{
+    let mut k = 0;
+    while k < n {
+        let h = houses[k];
+        if !ship::full_breadth(h) {
+            return true;
+        }
+        k += 1;
+    }
+    false
+}
+
+// The lowest version that holds a ship.
+pub fn lowest_for(x: Ship) -> u64
+    requires { ⌜ x .n ≤ 8 ⌝ }
+    ensures { λ r. ⌜ r ≡ lowestFor x ⌝ }
+{
+    let houses = x.houses;
+    if any_set_in(houses, x.n) {
+        return THIRD_VERSION;
+    }
+    if x.kind > last_type_in(FIRST_VERSION) {
+        return SECOND_VERSION;
+    }
+    FIRST_VERSION
 }
 
 // A flag's bit.

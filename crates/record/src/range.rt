@@ -36,6 +36,8 @@ pub const HEIGHT: u64 = 1 << width::HEIGHT;
 
 pub const HOUSE_SPARE: u64 = 1 << width::HOUSE_SPARE;
 
+pub const BREADTH: u64 = 1 << width::BREADTH;
+
 // ---- by the version
 pub fn kind(version: u64) -> u64
     ensures { λ r. ⌜ (r ≡ 2 ^ kindBits version) × (0 < r) × (r ≤ 8) ⌝ }

@@ -46,6 +46,9 @@ pub const HEIGHT: u64 = 13;
 
 pub const HOUSE_SPARE: u64 = 7;
 
+// From version 3 on.
+pub const BREADTH: u64 = 16;
+
 // ---- by the version
 pub fn kind(version: u64) -> u64
     ensures { λ r. ⌜ (r ≡ kindBits version) × (r ≤ 3) ⌝ }

@@ -3,9 +3,9 @@ use denote.Ref.{now}
 use lib.Seq.{length-take-le}
 use native.Mathlib.Omega.{arith}
 use borrow.Author.Needs.{needs}
-use Rattle.head_writer.proofs.HeadOut.{two-words}
-use Rattle.head_writer.proofs.put_two.Statement.{statement}
-use Rattle.head_writer.proofs.put_two.Tie as tie
+use Rattle.bits.proofs.Fill.{two-words}
+use Rattle.bits.proofs.put_two.Statement.{statement}
+use Rattle.bits.proofs.put_two.Tie as tie
 
 pub put-two-spec : {M : Type 1} → statement M
 put-two-spec =

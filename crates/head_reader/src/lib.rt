@@ -7,8 +7,6 @@ ghost use Rattle.ship.specs.Refusals.{paper, first};
 ghost use Rattle.record.specs.Layout.{headIn};
 ghost use Rattle.record.specs.Words.{sheerIn};
 ghost use Rattle.record.specs.Reading.{headLines};
-use record::HEAD_BYTES;
-use record::HOUSE_BYTES;
 use record::Head;
 use record::after;
 use record::range;
@@ -75,7 +73,7 @@ pub fn check_head(h: Head, bytes: usize) -> Verdict
         return Verdict::Refused(Refusal::HouseCount);
     }
     let n = h.count as usize;
-    if bytes != HEAD_BYTES + HOUSE_BYTES * n {
+    if bytes != record::record_bytes(h.version, n) {
         return Verdict::Refused(Refusal::RecordLength);
     }
     Verdict::Accepted

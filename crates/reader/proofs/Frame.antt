@@ -16,10 +16,10 @@ use Rattle.record.specs.Layout.{recordLength, headIn, placesIn, shipOf, shipIn}
 use Rattle.record.specs.Reading.{sparesIn, headLines, spareLine, frameLines}
 
 -- what a right head shows
-pub headed : (h : Head) (l : ℕ) → first (headLines h l) ≡ accepted → (h .count ≤ 8) × (l ≡ recordLength (h .count))
+pub headed : (h : Head) (l : ℕ) → first (headLines h l) ≡ accepted → (h .count ≤ 8) × (l ≡ recordLength (h .version) (h .count))
 headed h l e =
     let p = all-pass (headLines h l) (omega arith) (ap (λ (v : Paper). v .number) e) in
-    (ltb-false 8 (h .count) (p .1 .1 .0), eqb-true l (recordLength (h .count)) (not-false (eqb l (recordLength (h .count))) (p .1 .1 .1 .0)))
+    (ltb-false 8 (h .count) (p .1 .1 .0), eqb-true l (recordLength (h .version) (h .count)) (not-false (eqb l (recordLength (h .version) (h .count))) (p .1 .1 .1 .0)))
 
 pub frame-short : (s : List ℕ) → length s < 27 → first (frameLines s) ≡ refused 1 0
 unfolding first pick
@@ -39,14 +39,14 @@ module _ (s : List ℕ) (h : Head) (is : h ≡ headIn s) (long : 27 ≤ length s
     frame-spare : first (frameLines s) ≡ first (spareLine h s ∷ [])
     frame-spare = frame-long ∙ first-accepted (headLines h (length s)) (spareLine h s ∷ []) (omega arith) right
 
-    pub spare-set : h .spare + sparesIn s (h .count) ≢ 0 → first (frameLines s) ≡ refused 6 0
+    pub spare-set : h .spare + sparesIn (h .version) s (h .count) ≢ 0 → first (frameLines s) ≡ refused 6 0
     unfolding first pick
-    spare-set n = frame-spare ∙ rw (ne-eqb (h .spare + sparesIn s (h .count)) 0 n) refl
+    spare-set n = frame-spare ∙ rw (ne-eqb (h .spare + sparesIn (h .version) s (h .count)) 0 n) refl
 
-    pub spare-clear : h .spare + sparesIn s (h .count) ≡ 0 → first (frameLines s) ≡ accepted
+    pub spare-clear : h .spare + sparesIn (h .version) s (h .count) ≡ 0 → first (frameLines s) ≡ accepted
     unfolding first pick
-    spare-clear n = frame-spare ∙ rw (eq-eqb (h .spare + sparesIn s (h .count)) 0 n) refl
+    spare-clear n = frame-spare ∙ rw (eq-eqb (h .spare + sparesIn (h .version) s (h .count)) 0 n) refl
 
-  pub ship-whole : shipOf h (placesIn (h .count) s) ≡ shipIn s
+  pub ship-whole : shipOf h (placesIn (h .version) (h .count) s) ≡ shipIn s
   unfolding shipIn
-  ship-whole = ap (λ (g : Head). shipOf g (placesIn (g .count) s)) is
+  ship-whole = ap (λ (g : Head). shipOf g (placesIn (g .version) (g .count) s)) is

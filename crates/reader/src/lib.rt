@@ -56,7 +56,7 @@ fn refuse(r: Refusal) -> Answer
     }
 }
 
-// Checks 7 to 11, 18 and 22.
+// Checks 7 to 11, 18, 22 and 23.
 fn judge(x: Ship) -> Answer
     requires { ⌜ x .n ≤ 8 ⌝ }
     ensures { λ r. ⌜ shown r ≡ readingOf (first (shipLines x)) x ⌝ }
@@ -78,12 +78,12 @@ fn judge(x: Ship) -> Answer
     }
 }
 
-// Checks 6 to 11, 18 and 22 on bytes whose head is right.
+// Checks 6 to 11, 18, 22 and 23 on bytes whose head is right.
 fn read_ship(s: &[u8], h: Head) -> Answer
     requires { ⌜ (h ≡ headIn (now s)) × (27 ≤ length (now s)) × (first (headLines h (length (now s))) ≡ accepted) ⌝ }
     ensures { λ r. ⌜ shown r ≡ readingIn (now (s .entry)) ⌝ }
 {
-    let all = house_reader::houses_in(s, h.count as usize);
+    let all = house_reader::houses_in(s, h.version, h.count as usize);
     if h.spare + all.spare != 0 {
         return refuse(Refusal::SpareBit);
     }
@@ -91,7 +91,7 @@ fn read_ship(s: &[u8], h: Head) -> Answer
     judge(ship_of(h, places))
 }
 
-// Reads a record of any version: refusals 1 to 11, 18 and 22, in the table's order.
+// Reads a record of any version: refusals 1 to 11, 18, 22 and 23, in the table's order.
 pub fn read(s: &[u8]) -> Answer
     ensures { λ r. ⌜ shown r ≡ readingIn (now (s .entry)) ⌝ }
 {

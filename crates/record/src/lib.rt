@@ -5,7 +5,7 @@ ghost use lib.Dec.{eqb};
 ghost use lib.ListN.{take};
 ghost use Rattle.whole.specs.Pick.{pick};
 ghost use Rattle.units.specs.Datum.{datum, lift};
-ghost use Rattle.record.specs.Layout.{lastTypeIn, houseSize, anySetIn, lowestFor, turn, bit};
+ghost use Rattle.record.specs.Layout.{lastTypeIn, houseSize, recordLength, anySetIn, lowestFor, turn, bit};
 use ship::House;
 use ship::Ship;
 use ship::kind;
@@ -86,6 +86,14 @@ pub fn house_bytes(version: u64) -> usize
     } else {
         HOUSE_BYTES + BREADTH_BYTES
     }
+}
+
+// How many bytes a record of `n` houses has in a version.
+pub fn record_bytes(version: u64, n: usize) -> usize
+    requires { ⌜ n ≤ 8 ⌝ }
+    ensures { λ r. ⌜ (r ≡ recordLength version n) × (r ≤ 123) ⌝ }
+{
+    HEAD_BYTES + house_bytes(version) * n
 }
 
 // Whether some of the first `n` houses have breadths.

@@ -31,23 +31,24 @@ check-head-spec =
     let b : h .kind ≤ lastTypeIn (h .version) = omega (arith, t .last-type-in .ensures) in
     let d : 8 < h .count = omega arith in
     rw (o .if1 .left, le-ltb (lastTypeIn (h .version)) (h .kind) b, lt-ltb 8 (h .count) d) refl)
-    (λ c. search needs)
-    (λ c. search needs)
+    (λ c κs. search needs)
     (λ c.
-    let t = c .before .before .before .before .before in
+    let r = c .before in
+    let t = r .before .before .before .before .before in
     let o = t .before in
     let s = o .before .before .before .args in
     let h = s .h in
     let b : h .kind ≤ lastTypeIn (h .version) = omega (arith, t .last-type-in .ensures) in
     let d : h .count ≤ 8 = omega arith in
-    let e : s .bytes ≢ recordLength (h .count) = omega arith in
-    rw (o .if1 .left, le-ltb (lastTypeIn (h .version)) (h .kind) b, le-ltb 8 (h .count) d, ne-eqb (s .bytes) (recordLength (h .count)) e) refl)
+    let e : s .bytes ≢ recordLength (h .version) (h .count) = omega (arith, r .record-bytes .ensures .0, c .if4 .taken) in
+    rw (o .if1 .left, le-ltb (lastTypeIn (h .version)) (h .kind) b, le-ltb 8 (h .count) d, ne-eqb (s .bytes) (recordLength (h .version) (h .count)) e) refl)
     (λ c.
-    let t = c .before .before .before .before .before in
+    let r = c .before in
+    let t = r .before .before .before .before .before in
     let o = t .before in
     let s = o .before .before .before .args in
     let h = s .h in
     let b : h .kind ≤ lastTypeIn (h .version) = omega (arith, t .last-type-in .ensures) in
     let d : h .count ≤ 8 = omega arith in
-    let e : s .bytes ≡ recordLength (h .count) = omega arith in
-    rw (o .if1 .left, le-ltb (lastTypeIn (h .version)) (h .kind) b, le-ltb 8 (h .count) d, eq-eqb (s .bytes) (recordLength (h .count)) e) refl))
+    let e : s .bytes ≡ recordLength (h .version) (h .count) = omega (arith, r .record-bytes .ensures .0, c .if4 .left) in
+    rw (o .if1 .left, le-ltb (lastTypeIn (h .version)) (h .kind) b, le-ltb 8 (h .count) d, eq-eqb (s .bytes) (recordLength (h .version) (h .count)) e) refl))

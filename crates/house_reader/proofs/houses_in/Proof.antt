@@ -1,41 +1,67 @@
 -- The places passed hold the record's houses, the others nothing; the spare bits so far are those of the houses passed.
-use Prim.Native.Nat.{_+_, _-_, _*_, _≤_}
-use mathlib.Core.Path.{_≡_, refl, ap, _∙_}
+use Prim.Native.Nat.{ℕ, _+_, _-_, _*_, _≤_, _<_}
+use mathlib.Core.Path.{_≡_, refl, sym, ap, subst, _∙_}
 use mathlib.Core.List.{_++_}
-use lib.ListN.{drop, replicate}
+use lib.ListN.{length, drop, getD, replicate}
 use denote.Ref.{now}
+use native.Mathlib.Nat.{mul-le-mul-left}
 use native.Mathlib.Omega.{arith}
 use borrow.Author.Needs.{needs}
+use Rattle.whole.proofs.Divide.{mul-most}
 use Rattle.ship.specs.Vessel.{noHouse}
-use Rattle.record.specs.Layout.{housesIn, placesIn, houseIn}
+use Rattle.record.specs.Layout.{housesIn, placesIn}
 use Rattle.record.specs.Reading.{sparesIn}
-use Rattle.house_reader.proofs.Places.{zero-bits, places-more, spares-more}
+use Rattle.house_reader.proofs.Places.{zero-bits, two-read, places-more, spares-more}
 use Rattle.house_reader.proofs.houses_in.Statement.{statement}
 use Rattle.house_reader.proofs.houses_in.Tie as tie
 
 abbrev Inv-loop : tie.InvT-loop
-Inv-loop s n places₀ spare₀ k₀ places spare k =
-    (k ≤ n) × (places ≡ housesIn k (drop 27 s) ++ replicate (8 - k) noHouse) × (spare ≡ sparesIn s k) × (spare ≤ 128 * k)
+Inv-loop s version n size places₀ spare₀ k₀ places spare k =
+    (k ≤ n) × (places ≡ housesIn version k (drop 27 s) ++ replicate (8 - k) noHouse) × (spare ≡ sparesIn version s k) × (spare ≤ 128 * k)
 
 abbrev μ-loop : tie.MeasureT-loop
-μ-loop s n places₀ spare₀ k₀ places spare k = n - k
+μ-loop s version n size places₀ spare₀ k₀ places spare k = n - k
+
+-- the bytes of the house at hand are within the record
+room : (l : tie.At-loop Inv-loop μ-loop)
+    → let b = l .before .before in
+    let a = b .before .before .args in
+    let m = b .house-bytes .result in
+    let k = l .loop .k in
+    k < a .n → (8 ≤ m) × (m * k + m ≤ 96) × (27 + m * k + m ≤ length (now (a .s)))
+room l h =
+    let b = l .before .before in
+    let s = b .before .before in
+    let a = s .args in
+    let m = b .house-bytes .result in
+    let k = l .loop .k in
+    let e = b .house-bytes .ensures in
+    let within : 27 + m * a .n ≤ length (now (a .s)) = subst (λ (z : ℕ). 27 + z * a .n ≤ length (now (a .s))) (sym (e .0)) (s .pre .1) in
+    let p : m * (k + 1) ≤ m * a .n = mul-le-mul-left m (omega arith) in
+    (e .1, omega (arith, p, mul-most m (a .n) 12 8 (e .2) (s .pre .0)), omega (arith, p, within))
 
 pub houses-in-spec : {M : Type 1} → statement M
-unfolding placesIn houseIn sparesIn
+unfolding placesIn sparesIn
 houses-in-spec =
     tie.close
     (tie.spec
     Inv-loop
     μ-loop
     (λ c κs. search needs)
-    (λ c. (search needs, (λ i. replicate 8 ((c .house-of .ensures ∙ zero-bits) i)), refl, search needs))
-    (λ c. search needs)
-    (λ c. search needs)
-    (λ c. search needs)
-    (λ c. search needs)
-    (λ c. search needs)
-    (λ c. search needs)
     (λ c κs. search needs)
+    (λ c. (search needs, (λ i. replicate 8 ((c .house-of .ensures ∙ zero-bits) i)), refl, search needs))
+    (λ c. omega (arith, room (c .before) (omega arith)))
+    (λ c. omega (arith, room (c .before) (omega arith)))
+    (λ c. omega (arith, room (c .before) (omega arith)))
+    (λ c. omega (arith, room (c .before) (omega arith)))
+    (λ c. search needs)
+    (λ c. let r = room (c .before) (omega arith) in search needs)
+    (λ c. let r = room (c .before) (omega arith) in search needs)
+    (λ c κs. let r = room (c .before .before) (omega arith) in search needs)
+    (λ c. omega (arith, room (c .before .before .before) (omega arith)))
+    (λ c. let r = room (c .before .before .before) (omega arith) in search needs)
+    (λ c. let r = room (c .before .before .before) (omega arith) in search needs)
+    (λ c κs. let r = room (c .before .before .before .before) (omega arith) in search needs)
     (λ c κs. search needs)
     (λ c. search needs)
     (λ c. search needs)
@@ -44,17 +70,22 @@ houses-in-spec =
     (λ c. search needs)
     (λ c.
     let w = c .before in
-    let l = w .before .before .before in
+    let v = w .before .before in
+    let l = v .before .before .before in
+    let b = l .before .before in
+    let f = b .before in
+    let a = f .before .args in
     let k = l .loop .k in
-    let s = now (l .before .before .before .args .s) in
-    let n : 27 + 8 * k + 8 - (27 + 8 * k) ≡ 8 = omega arith in (
+    let s = now (a .s) in
+    let bytes : (i : ℕ) → getD s i 0 < 256 = λ i. omega (arith, f .shared-slice-known .given i) in
+    let t = two-read (a .version) s (b .house-bytes .result) k bytes (b .house-bytes .ensures .0) (room l (omega arith) .2) (v .word .ensures) (w .word2 .ensures) in (
       omega arith,
-      rw (c .house-of2 .ensures, w .word .ensures, n, l .loop .inv .1) (places-more s k (omega arith)),
-      rw (w .word .ensures, n, l .loop .inv .2) (spares-more s k),
+      rw (c .house-of2 .ensures, t .0, l .loop .inv .1) (places-more (a .version) s k (omega arith)),
+      rw (t .1, l .loop .inv .2) (spares-more (a .version) s k),
       omega arith,
     ))
     (λ c.
     let l = c .before in
-    let a = l .before .before .before .args in
+    let a = l .before .before .before .before .args in
     let k : l .loop .k ≡ a .n = omega arith in
-    (l .loop .inv .1 ∙ rw k refl, l .loop .inv .2 ∙ ap (sparesIn (now (a .s))) k, omega arith)))
+    (l .loop .inv .1 ∙ rw k refl, l .loop .inv .2 ∙ ap (sparesIn (a .version) (now (a .s))) k, omega arith)))

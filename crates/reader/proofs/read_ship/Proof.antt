@@ -36,7 +36,7 @@ read-ship-spec =
     let t = n .before .before in
     let s = now (t .args .s) in
     let h = t .args .h in
-    let z : h .spare + sparesIn s (h .count) ≢ 0 = omega (arith, n .houses-in .ensures .1, c .before .if1 .taken) in
+    let z : h .spare + sparesIn (h .version) s (h .count) ≢ 0 = omega (arith, n .houses-in .ensures .1, c .before .if1 .taken) in
     c .refuse .ensures ∙ sym (reading-unframed s SpareBit (spare-set s h (t .pre .0) (t .pre .1) (t .pre .2) z)))
     (λ c κs.
     let t = c .before .before .before .before .before .before in
@@ -51,7 +51,7 @@ read-ship-spec =
     let t = n .before .before in
     let s = now (t .args .s) in
     let h = t .args .h in
-    let z : h .spare + sparesIn s (h .count) ≡ 0 = omega (arith, n .houses-in .ensures .1, e .if1 .left) in
+    let z : h .spare + sparesIn (h .version) s (h .count) ≡ 0 = omega (arith, n .houses-in .ensures .1, e .if1 .left) in
     let x = o .ship-of .ensures ∙ ap (shipOf h) (n .houses-in .ensures .0) ∙ ship-whole s h (t .pre .0) (t .pre .1) in
     c .judge .ensures
     ∙ ap (λ (x : Ship). readingOf (first (shipLines x)) x) x ∙ sym (reading-framed s (spare-clear s h (t .pre .0) (t .pre .1) (t .pre .2) z))))

@@ -6,26 +6,25 @@ ghost use lib.ListN.{length, drop};
 ghost use Rattle.bits.specs.Fields.{Fit};
 ghost use Rattle.ship.specs.Vessel.{housesOf};
 ghost use Rattle.ship.specs.Refusals.{paper};
-ghost use Rattle.record.specs.Layout.{recordLength, Low, headWidths, headFields, shipHead, recordBytes};
-ghost use Rattle.record.specs.Writing.{writingOf, written};
+ghost use Rattle.record.specs.Layout.{HousesFit, lowestFor, headWidths, headFields, headFor, shipHead, recordBytes};
+ghost use Rattle.record.specs.Writing.{bytesFor, writingOf, written};
 use record::HEAD_BYTES;
-use record::HOUSE_BYTES;
 use record::Head;
 use ship::Ship;
 use ship::refusal;
 use ship::refusal::Refusal;
 use ship::refusal::Verdict;
 
-// The head of a ship's record, in the lowest version that holds it.
-fn head_of(x: Ship) -> Head
-    ensures { λ r. ⌜ r ≡ shipHead x ⌝ }
+// The head of a ship's record in a version.
+fn head_of(x: Ship, version: u64) -> Head
+    ensures { λ r. ⌜ r ≡ headFor version x ⌝ }
 {
     let length = x.length;
     let depth = x.depth;
     let moulded = x.moulded;
     let sheer = x.sheer;
     Head {
-        version: record::lowest_for(x.kind),
+        version,
         kind: x.kind,
         count: x.n as u64,
         spare: 0,
@@ -40,20 +39,21 @@ fn head_of(x: Ship) -> Head
     }
 }
 
-// Writes the record of a ship that was accepted; what stands behind it stays.
+// Writes the record of a ship that was accepted, in the lowest version that holds it; what stands behind it stays.
 fn put_record(buf: &mut [u8], x: Ship)
-    requires { ⌜ (x .n ≤ 8) × (recordLength (x .n) ≤ length (now buf)) ⌝ }
+    requires { ⌜ (x .n ≤ 8) × (bytesFor x ≤ length (now buf)) ⌝ }
     requires { ⌜ Fit (headWidths (shipHead x .version)) (headFields (shipHead x)) ⌝ }
-    requires { ⌜ Low (housesOf x) ⌝ }
-    ensures { λ _. ⌜ now (buf .exit) ≡ recordBytes x ++ drop (recordLength (x .n)) (now (buf .entry)) ⌝ }
+    requires { ⌜ HousesFit (lowestFor x) (housesOf x) ⌝ }
+    ensures { λ _. ⌜ now (buf .exit) ≡ recordBytes x ++ drop (bytesFor x) (now (buf .entry)) ⌝ }
 {
-    let h = head_of(x);
+    let version = record::lowest_for(x);
+    let h = head_of(x, version);
     head_writer::write(&mut buf[0..HEAD_BYTES], h);
     let houses = x.houses;
-    house_writer::put_houses(buf, houses, x.n);
+    house_writer::put_houses(buf, version, houses, x.n);
 }
 
-// The verdict on writing a ship into `room` bytes: refusals 3, 4, 7 to 11, 18, 22 and 17, in the table's order.
+// The verdict on writing a ship into `room` bytes: refusals 3, 4, 7 to 11, 18, 22, 23 and 17, in the table's order.
 fn verdict(x: Ship, room: usize) -> Verdict
     ensures { λ v. ⌜ paper v ≡ writingOf room x ⌝ }
 {
@@ -63,7 +63,7 @@ fn verdict(x: Ship, room: usize) -> Verdict
     if x.n as u64 > record::MOST_HOUSES {
         return Verdict::Refused(Refusal::HouseCount);
     }
-    let short = room < HEAD_BYTES + HOUSE_BYTES * x.n;
+    let short = room < record::record_bytes(record::lowest_for(x), x.n);
     let last = refusal::line(short, Refusal::ShortBuffer, Verdict::Accepted);
     let checked = checks::of_ship(x);
     refusal::after(checked, last)

@@ -1,23 +1,57 @@
 -- The houses passed stand in their bytes; all other bytes are as they were.
-use Prim.Native.Nat.{_+_, _-_, _*_, _≤_, _<_}
-use mathlib.Core.Path.{_≡_, refl, sym, _∙_}
+use Prim.Native.Nat.{ℕ, _+_, _-_, _*_, _≤_, _<_}
+use mathlib.Core.Path.{_≡_, refl, sym, subst, _∙_}
 use mathlib.Core.List.{_++_, append-nil}
 use lib.ListN.{length, take, drop, length-take, length-drop, take-append-drop}
 use lib.Seq.{length-take-le, getD-take}
 use denote.Ref.{now}
+use native.Mathlib.Nat.{mul-zero, mul-le-mul-left}
 use native.Mathlib.Omega.{arith}
 use borrow.Author.Needs.{needs}
-use Rattle.record.specs.Layout.{housesBytes}
-use Rattle.house_writer.proofs.Written.{houses-more}
+use Rattle.whole.proofs.Divide.{mul-most}
+use Rattle.bits.specs.Fields.{Fit}
+use Rattle.ship.specs.Vessel.{houseAt}
+use Rattle.record.specs.Layout.{houseWidths, houseSize, houseFields, housesBytes}
+use Rattle.house_writer.proofs.Written.{house-put, fit-limits, houses-more}
 use Rattle.house_writer.proofs.put_houses.Statement.{statement}
 use Rattle.house_writer.proofs.put_houses.Tie as tie
 
 abbrev Inv-loop : tie.InvT-loop
-Inv-loop buf₀ n houses k₀ buf k =
-    (k ≤ n) × (buf ≡ (take 27 buf₀ ++ housesBytes (take k houses)) ++ drop (27 + 8 * k) buf₀) × (length buf ≡ length buf₀)
+Inv-loop buf₀ version n houses size k₀ buf k =
+    (k ≤ n) × (buf ≡ (take 27 buf₀ ++ housesBytes version (take k houses)) ++ drop (27 + houseSize version * k) buf₀) × (length buf ≡ length buf₀)
 
 abbrev μ-loop : tie.MeasureT-loop
-μ-loop buf₀ n houses k₀ buf k = n - k
+μ-loop buf₀ version n houses size k₀ buf k = n - k
+
+-- the bytes of the house at hand are within the buffer
+room : (l : tie.At-loop Inv-loop μ-loop)
+    → let b = l .before in
+    let a = b .before .before .args in
+    let m = b .house-bytes .result in
+    let k = l .loop .k in
+    k < a .n → (8 ≤ m) × (m ≤ 12) × (m * k + m ≤ 96) × (27 + m * k + m ≤ length (l .loop .buf))
+room l h =
+    let b = l .before in
+    let s = b .before .before in
+    let a = s .args in
+    let m = b .house-bytes .result in
+    let k = l .loop .k in
+    let e = b .house-bytes .ensures in
+    let within : 27 + m * a .n ≤ length (now (a .buf)) = subst (λ (z : ℕ). 27 + z * a .n ≤ length (now (a .buf))) (sym (e .0)) (s .pre .0 .1) in
+    let p : m * (k + 1) ≤ m * a .n = mul-le-mul-left m (omega arith) in
+    (e .1, e .2, omega (arith, p, mul-most m (a .n) 12 8 (e .2) (s .pre .0 .0)), omega (arith, p, within, l .loop .inv .2))
+
+-- the house at hand fits
+fit : (l : tie.At-loop Inv-loop μ-loop)
+    → let a = l .before .before .before .args in
+    l .loop .k < a .n → Fit (houseWidths (a .version)) (houseFields (houseAt (a .t3) (l .loop .k)))
+fit l h =
+    let s = l .before .before .before in
+    let a = s .args in
+    let k = l .loop .k in
+    let m : length (a .t3) ≡ 8 = search needs in
+    let t : length (take (a .n) (a .t3)) ≡ a .n = length-take-le (a .n) (a .t3) (omega arith) in
+    rw (getD-take (a .n) (a .t3) k _ h) at (s .pre .1 .each k (omega arith))
 
 pub put-houses-spec : {M : Type 1} → statement M
 put-houses-spec =
@@ -25,40 +59,45 @@ put-houses-spec =
     (tie.spec
     Inv-loop
     μ-loop
+    (λ c κs. search needs)
     (λ c.
-    let b = now (c .before .args .buf) in
-    (search needs, rw (append-nil (take 27 b)) (sym (take-append-drop 27 b)), refl))
+    let a = c .before .before .args in
+    let b = now (a .buf) in
+    (search needs, rw (mul-zero (houseSize (a .version)), append-nil (take 27 b)) (sym (take-append-drop 27 b)), refl))
+    (λ c. omega (arith, room (c .before) (omega arith)))
+    (λ c. omega (arith, room (c .before) (omega arith)))
+    (λ c. omega (arith, room (c .before) (omega arith)))
     (λ c. search needs)
     (λ c. search needs)
     (λ c. search needs)
-    (λ c. search needs)
-    (λ c. search needs)
-    (λ c. search needs)
-    (λ c. search needs)
-    (λ c. search needs)
+    (λ c. let r = room (c .before .before) (omega arith) in search needs)
+    (λ c. let r = room (c .before .before) (omega arith) in search needs)
     (λ c κs.
     let l = c .before .before .before in
-    let k = l .loop .k in
-    let h : k < l .before .before .args .n = omega arith in
-    let a = l .before .before .args in
-    let m : length (a .t2) ≡ 8 = search needs in
-    let t : length (take (a .n) (a .t2)) ≡ a .n = length-take-le (a .n) (a .t2) (omega arith) in (
-      simp (length-take, length-drop) (omega arith),
-      rw (getD-take (a .n) (a .t2) k _ h) at (l .before .before .pre .1 .each k (omega arith)),
-    ))
+    let r = room l (omega arith) in
+    let a = l .before .before .before .args in
+    let f = fit-limits (a .version) (houseAt (a .t3) (l .loop .k)) (fit l (omega arith)) in
+    (simp (length-take, length-drop) (omega arith), simp (length-take, length-drop) (omega arith), f .0, f .1, f .2))
     (λ c. search needs)
     (λ c. search needs)
     (λ c.
     let w = c .before .before in
     let l = w .before .before .before .before in
-    let a = l .before .before .args in
+    let b = l .before in
+    let a = b .before .before .args in
     let k = l .loop .k in
-    let n : 27 + 8 * k + 8 - (27 + 8 * k) ≡ 8 = omega arith in
-    let m : length (a .t2) ≡ 8 = search needs in
-    let stored : _ ≡ _ = λ i. let b = l .loop .inv .1 i in take (27 + 8 * k) b ++ (w .put-house .ensures i ++ drop (n i) (drop (27 + 8 * k) b)) in
-    (omega arith, stored ∙ houses-more (now (a .buf)) (a .t2) k (omega arith) (omega arith), search needs))
+    let m = b .house-bytes .result in
+    let e = b .house-bytes .ensures .0 in
+    let r = room l (omega arith) in
+    let n : 27 + m * k + m - (27 + m * k) ≡ houseSize (a .version) = omega (arith, e) in
+    let q : length (take (27 + m * k + m - (27 + m * k)) (drop (27 + m * k) (l .loop .buf))) ≡ houseSize (a .version) = simp (length-take, length-drop) (omega (arith, e, r)) in
+    let h = houseAt (a .t3) k in
+    let put = house-put (a .version) _ h (fit l (omega arith)) q (w .put-house .ensures) in
+    let t : length (a .t3) ≡ 8 = search needs in
+    let stored : _ ≡ _ = λ i. let b = l .loop .inv .1 i in take (27 + e i * k) b ++ (put i ++ drop (n i) (drop (27 + e i * k) b)) in
+    (omega arith, stored ∙ houses-more (a .version) (now (a .buf)) (a .t3) k (omega arith) (omega arith), search needs))
     (λ c. search needs)
     (λ c.
     let l = c .before in
-    let k : l .loop .k ≡ l .before .before .args .n = omega arith in
+    let k : l .loop .k ≡ l .before .before .before .args .n = omega arith in
     l .loop .inv .1 ∙ rw k refl))

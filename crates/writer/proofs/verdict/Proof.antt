@@ -1,12 +1,13 @@
 -- Each return's verdict is that of its line.
-use Prim.Native.Nat.{_≤_, _<_}
-use mathlib.Core.Path.{_≡_, refl, sym, _∙_}
+use Prim.Native.Nat.{ℕ, _≤_, _<_}
+use mathlib.Core.Path.{_≡_, refl, sym, ap, _∙_}
 use borrow.Author.Tests.{lt-ltb, le-ltb}
 use native.Mathlib.Omega.{arith}
 use borrow.Author.Needs.{needs}
 use Rattle.whole.specs.Pick.{pick}
 use Rattle.ship.specs.Refusals.{first}
-use Rattle.record.specs.Writing.{writingOf}
+use Rattle.record.specs.Layout.{recordLength}
+use Rattle.record.specs.Writing.{bytesFor, writingOf}
 use Rattle.record.proofs.Written.{writing-judged}
 use Rattle.writer.proofs.verdict.Statement.{statement}
 use Rattle.writer.proofs.verdict.Tie as tie
@@ -24,14 +25,17 @@ verdict-spec =
     let h : x .kind ≤ 4 = omega arith in
     let k : 8 < x .n = omega arith in
     simp (le-ltb, lt-ltb))
-    (λ c. search needs)
-    (λ c. search needs)
+    (λ c κs. search needs)
+    (λ c κs. search needs)
     (λ c κs. search needs)
     (λ c κs. search needs)
     (λ c κs. search needs)
     (λ c.
     let o = c .before in
     let l = o .before in
-    let a = l .before .before .before .before .before .args in
+    let r = l .before in
+    let v = r .before in
+    let a = v .before .before .before .before .args in
+    let bytes : r .record-bytes .result ≡ bytesFor (a .x) = r .record-bytes .ensures .0 ∙ ap (λ (w : ℕ). recordLength w (a .x .n)) (v .lowest-for .ensures) in
     c .after .ensures
-    ∙ rw (o .of-ship .ensures, l .line .ensures) (sym (writing-judged (a .room) (a .x) (omega arith) (omega arith)))))
+    ∙ rw (o .of-ship .ensures, l .line .ensures, bytes) (sym (writing-judged (a .room) (a .x) (omega arith) (omega arith)))))

@@ -13,7 +13,7 @@ use Rattle.ship.specs.Refusals.{Paper, paper, numberOf}
 use Rattle.ship.proofs.Accepted.{good}
 use Rattle.ship.proofs.OneToOne.{number-above-0}
 use Rattle.record.specs.Writing.{written}
-use Rattle.record.proofs.Written.{writing-passed, head-fits, low}
+use Rattle.record.proofs.Written.{writing-passed, head-fits, houses-fit}
 use Rattle.writer.proofs.write.Statement.{statement}
 use Rattle.writer.proofs.write.Tie as tie
 
@@ -40,7 +40,7 @@ write-spec =
     let e = eqb-true _ 0 (told m ∙ t .if1 .taken) in
     let p = writing-passed (length (now (a .buf))) (a .x) (ap (λ (z : Paper). z .number) (sym (m .before .verdict .ensures)) ∙ e) in
     let g = good (a .x) (ap (λ (z : Paper). z .number) (p .2)) in
-    ((p .1, p .3), (head-fits (a .x) (p .0) (p .1) g, low (a .x) g)))
+    ((p .1, p .3), (head-fits (a .x) (p .0) (p .1) g, houses-fit (a .x) g)))
     (λ c. search needs)
     (λ c.
     let w = c .before .before in

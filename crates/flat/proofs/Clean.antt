@@ -42,7 +42,7 @@ house-cleaned : (l : ℕ) (h : FlatHouse) → GoodHouse l (houseFrom h) → hous
 unfolding houseOf houseFrom
 house-cleaned l h g =
     let e = house-kept l h g in
-    λ i. record { enclosed = flagOf (h .enclosed); quarterdeck = flagOf (h .quarterdeck); aft = e .0 i; fore = e .1 i; height = h .height }
+    λ i. record { enclosed = flagOf (h .enclosed); quarterdeck = flagOf (h .quarterdeck); aft = e .0 i; fore = e .1 i; height = h .height; breadth = h .breadth; beam = h .beam }
 
 houses-cleaned : (l n : ℕ) (hs : List FlatHouse) → let gs = take n (map houseFrom hs) in
     ((k : ℕ) → k < length gs → GoodHouse l (houseAt gs k)) → map houseOf gs ≡ map flatCleanHouse (take n hs)

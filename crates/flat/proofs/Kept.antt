@@ -50,6 +50,8 @@ house-back h =
       aft = record { 0 = from-back (datum - 1) (h .aft .0) i };
       fore = record { 0 = from-back (datum - 1) (h .fore .0) i };
       height = h .height;
+      breadth = h .breadth;
+      beam = h .beam;
     }
 
 sheer-back : (s : List Ordinate) → map ordinateFrom (map sheerMm s) ≡ s

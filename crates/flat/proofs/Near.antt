@@ -12,7 +12,7 @@ use Rattle.ship.specs.declared.Ship.{Ship}
 use Rattle.ship.specs.Vessel.{noHouse, noShip, houseAt}
 use Rattle.ship.specs.Refusals.{first}
 use Rattle.ship.specs.Checks.{shipLines}
-use Rattle.record.specs.Layout.{headIn, houseIn, housesIn, placesIn, shipIn}
+use Rattle.record.specs.Layout.{headIn, houseSize, houseIn, housesIn, placesIn, shipIn}
 use Rattle.record.specs.Reading.{frameLines, readingIn}
 use Rattle.flat.specs.Flat.{Near, NearHouses, NearSheer}
 
@@ -20,13 +20,13 @@ abbrev All : List House → Type 0
 All [] = Unit {0}
 All (h ∷ hs) = Near h × All hs
 
-near-in : (t : List ℕ) → Near (houseIn t)
+near-in : (version : ℕ) (t : List ℕ) → Near (houseIn version t)
 unfolding houseIn
-near-in t = record { aft = omega arith; fore = omega arith }
+near-in version t = record { aft = omega arith; fore = omega arith }
 
-all-in : (n : ℕ) (t : List ℕ) → All (housesIn n t)
-all-in zero t = tt
-all-in (suc n) t = (near-in (take 8 t), all-in n (drop 8 t))
+all-in : (version n : ℕ) (t : List ℕ) → All (housesIn version n t)
+all-in version zero t = tt
+all-in version (suc n) t = (near-in version (take (houseSize version) t), all-in version n (drop (houseSize version) t))
 
 all-none : (n : ℕ) → All (replicate n noHouse)
 all-none zero = tt
@@ -54,8 +54,9 @@ low (o ∷ os) a (suc k) = low os (a .1) k
 near-ship : (s : List ℕ) → NearSheer (shipIn s .sheer) × NearHouses (shipIn s .houses)
 unfolding shipIn headIn placesIn
 near-ship s =
+    let v = headIn s .version in
     let n = shipIn s .n in
-    (record { each = low (shipIn s .sheer) (omega arith) }, record { each = each (placesIn n s) (all-both (housesIn n (drop 27 s)) (replicate (8 - n) noHouse) (all-in n (drop 27 s)) (all-none (8 - n))) })
+    (record { each = low (shipIn s .sheer) (omega arith) }, record { each = each (placesIn v n s) (all-both (housesIn v n (drop 27 s)) (replicate (8 - n) noHouse) (all-in v n (drop 27 s)) (all-none (8 - n))) })
 
 pub near-read : (s : List ℕ) → NearSheer (readingIn s .ship .sheer) × NearHouses (readingIn s .ship .houses)
 unfolding readingIn

@@ -25,6 +25,8 @@ houseOf h = record {
   aft = mmOf (h .aft .0);
   fore = mmOf (h .fore .0);
   height = h .height .0;
+  breadth = h .breadth .0;
+  beam = h .beam .0;
 }
 
 unfoldable pub shipOf : Ship → FlatShip
@@ -53,6 +55,8 @@ houseFrom h = record {
   aft = record { 0 = stationAt (h .aft) };
   fore = record { 0 = stationAt (h .fore) };
   height = record { 0 = h .height };
+  breadth = record { 0 = h .breadth };
+  beam = record { 0 = h .beam };
 }
 
 unfoldable pub shipFrom : FlatShip → Ship
@@ -86,10 +90,18 @@ abbrev pub flagOf : ℕ → ℕ
 flagOf a = bit (not (eqb a 0))
 
 abbrev pub flatZeroHouse : FlatHouse
-flatZeroHouse = record { enclosed = 0; quarterdeck = 0; aft = pos 0; fore = pos 0; height = 0 }
+flatZeroHouse = record { enclosed = 0; quarterdeck = 0; aft = pos 0; fore = pos 0; height = 0; breadth = 0; beam = 0 }
 
 abbrev pub flatCleanHouse : FlatHouse → FlatHouse
-flatCleanHouse h = record { enclosed = flagOf (h .enclosed); quarterdeck = flagOf (h .quarterdeck); aft = h .aft; fore = h .fore; height = h .height }
+flatCleanHouse h = record {
+  enclosed = flagOf (h .enclosed);
+  quarterdeck = flagOf (h .quarterdeck);
+  aft = h .aft;
+  fore = h .fore;
+  height = h .height;
+  breadth = h .breadth;
+  beam = h .beam;
+}
 
 unfoldable pub flatClean : FlatShip → FlatShip
 flatClean x = record {

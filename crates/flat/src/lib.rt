@@ -17,6 +17,9 @@ pub struct FlatHouse {
     pub aft: i64,
     pub fore: i64,
     pub height: u64,
+    // Of set-in sides, the house's breadth and the ship's; 0 and 0 for full breadth.
+    pub breadth: u64,
+    pub beam: u64,
 }
 
 // Fields 1 to 13 in the record's order, and the houses, of which the first `n` count.
@@ -50,6 +53,8 @@ fn of_house(h: House) -> FlatHouse
         aft,
         fore,
         height: h.height.0,
+        breadth: h.breadth.0,
+        beam: h.beam.0,
     }
 }
 
@@ -63,6 +68,8 @@ fn of_houses(hs: [House; 8]) -> [FlatHouse; 8]
         aft: 0,
         fore: 0,
         height: 0,
+        breadth: 0,
+        beam: 0,
     };
     let mut flat = [none; 8];
     let mut k = 0;
@@ -124,6 +131,8 @@ fn to_house(h: FlatHouse) -> House
         aft,
         fore,
         height: Span(h.height),
+        breadth: Span(h.breadth),
+        beam: Span(h.beam),
     }
 }
 

@@ -27,4 +27,12 @@ of-house-spec =
     rw (c .before .mm-of-station .ensures) (toZ-ofZ (minus-fits (h .aft .0) datum (omega arith) (omega arith))) in
     let fe : toZ w64 (ofZ w64 (c .mm-of-station2 .result)) ≡ mmOf (h .fore .0) =
     rw (c .mm-of-station2 .ensures) (toZ-ofZ (minus-fits (h .fore .0) datum (omega arith) (omega arith))) in
-    λ i. record { enclosed = g .bit-of .ensures .0 i; quarterdeck = q .bit-of2 .ensures .0 i; aft = ae i; fore = fe i; height = h .height .0 }))
+    λ i. record {
+      enclosed = g .bit-of .ensures .0 i;
+      quarterdeck = q .bit-of2 .ensures .0 i;
+      aft = ae i;
+      fore = fe i;
+      height = h .height .0;
+      breadth = h .breadth .0;
+      beam = h .beam .0;
+    }))

@@ -2,14 +2,13 @@ use Prim.Native.Nat.{_-_, _≤_}
 use mathlib.Core.Path.{_≡_, _∙_}
 use native.Mathlib.Omega.{arith}
 use borrow.Author.Needs.{needs}
-use lib.IntN.{pos}
-use Rattle.flat.specs.Flat.{houseOf}
+use Rattle.flat.specs.Flat.{houseOf, flatZeroHouse}
 use Rattle.flat.proofs.Filled.{filled, filled-none, filled-more, filled-all}
 use Rattle.flat.proofs.of_houses.Statement.{statement}
 use Rattle.flat.proofs.of_houses.Tie as tie
 
 abbrev Inv-loop : tie.InvT-loop
-Inv-loop hs flat₀ k₀ flat k = (k ≤ 8) × (flat ≡ filled houseOf (record { enclosed = 0; quarterdeck = 0; aft = pos 0; fore = pos 0; height = 0 }) k hs)
+Inv-loop hs flat₀ k₀ flat k = (k ≤ 8) × (flat ≡ filled houseOf flatZeroHouse k hs)
 
 abbrev μ-loop : tie.MeasureT-loop
 μ-loop hs flat₀ k₀ flat k = 8 - k

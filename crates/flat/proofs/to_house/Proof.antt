@@ -28,4 +28,6 @@ to-house-spec =
       aft = record { 0 = at i };
       fore = record { 0 = to i };
       height = record { 0 = h .height };
+      breadth = record { 0 = h .breadth };
+      beam = record { 0 = h .beam };
     }))

@@ -6,8 +6,8 @@ use lib.IntN.{pos, natAbs}
 use Rattle.whole.specs.Pick.{pick}
 use Rattle.ship.specs.declared.Ship.{Ship}
 use Rattle.ship.specs.Refusals.{Paper}
-use Rattle.record.specs.Layout.{recordLength}
 use Rattle.record.specs.Reading.{Reading}
+use Rattle.record.specs.Writing.{bytesFor}
 use Rattle.mark.specs.declared.Marks.{Marks}
 use Rattle.mark.specs.Summer.{Holds}
 use Rattle.mark.specs.Others.{Sheet}
@@ -49,4 +49,4 @@ fromReading a = record { verdict = a .verdict; ship = shipOf (a .ship) }
 
 -- with the record's length
 unfoldable pub fromVerdict : Paper → Ship → WriteAnswer
-fromVerdict p x = record { verdict = p; bytes = pick (eqb (p .number) 0) (recordLength (x .n)) 0 }
+fromVerdict p x = record { verdict = p; bytes = pick (eqb (p .number) 0) (bytesFor x) 0 }

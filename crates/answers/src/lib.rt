@@ -4,15 +4,14 @@ ghost use Prim.Native.Nat.{_≤_};
 ghost use lib.Dec.{eqb};
 ghost use Rattle.whole.specs.Pick.{pick};
 ghost use Rattle.ship.specs.Refusals.{paper};
-ghost use Rattle.record.specs.Layout.{recordLength};
+ghost use Rattle.record.specs.Writing.{bytesFor};
 ghost use Rattle.mark.specs.Others.{sheet};
 ghost use Rattle.mark.specs.declared.Answer.the-variants.{Given, Refused};
 ghost use Rattle.question.specs.Question.{reply};
 ghost use Rattle.answers.specs.Answers.{fromSheet, fromReply, Small};
 use flat::FlatShip;
 use mark::Marks;
-use record::HEAD_BYTES;
-use record::HOUSE_BYTES;
+use ship::Ship;
 use ship::refusal;
 use ship::refusal::Paper;
 use ship::refusal::Refusal;
@@ -112,13 +111,13 @@ pub fn paper_of(v: Verdict) -> Paper
     }
 }
 
-// The length of the record of `n` houses that was written, or 0 where it was refused.
-pub fn length_of(v: Verdict, n: usize) -> u64
-    requires { ⌜ (paper v .number ≡ 0 → n ≤ 8) ⌝ }
-    ensures { λ r. ⌜ r ≡ pick (eqb (paper v .number) 0) (recordLength n) 0 ⌝ }
+// The length of a ship's record that was written, or 0 where it was refused.
+pub fn length_of(v: Verdict, x: Ship) -> u64
+    requires { ⌜ (paper v .number ≡ 0 → x .n ≤ 8) ⌝ }
+    ensures { λ r. ⌜ r ≡ pick (eqb (paper v .number) 0) (bytesFor x) 0 ⌝ }
 {
     match v {
-        Verdict::Accepted => (HEAD_BYTES + HOUSE_BYTES * n) as u64,
+        Verdict::Accepted => record::record_bytes(record::lowest_for(x), x.n) as u64,
         Verdict::Refused(_) => 0,
     }
 }

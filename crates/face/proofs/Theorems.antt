@@ -2,7 +2,7 @@
 -- zeros; and no second answer meets a call's contract.
 use Prim.Native.Nat.{ℕ, _≤_, _<_}
 use mathlib.Core.List.{List, [], _∷_, _++_}
-use mathlib.Core.Path.{_≡_, refl, sym, ap, _∙_}
+use mathlib.Core.Path.{_≡_, refl, sym, ap, subst, _∙_}
 use native.Mathlib.Omega.{arith}
 use borrow.Author.Tests.{ne-eqb}
 use lib.Dec.{ltb}
@@ -16,9 +16,9 @@ use Rattle.ship.specs.Checks.{shipLines}
 use Rattle.ship.specs.Good.{Good}
 use Rattle.ship.proofs.Lines.{AllPass, all-pass, all-pass-split, first-passed}
 use Rattle.ship.proofs.Accepted.{good}
-use Rattle.record.specs.Layout.{recordLength, lowestFor, versionIn, shipIn}
+use Rattle.record.specs.Layout.{lowestFor, versionIn, shipIn}
 use Rattle.record.specs.Reading.{frameLines, readingIn}
-use Rattle.record.specs.Writing.{writeLines, writingOf, written}
+use Rattle.record.specs.Writing.{bytesFor, writeLines, writingOf, written}
 use Rattle.record.proofs.RoundTrip as RoundTrip
 use Rattle.record.proofs.Theorems.{read-what-was-written, write-what-was-read, written-reads-same}
 use Rattle.marks.specs.Marks.{sheetIn}
@@ -50,7 +50,7 @@ module _ (buf : List ℕ) (x : Ship) (shaped : RoundTrip.Shaped x) (z : writingO
   passed = all-pass (writeLines (length buf) x) (omega arith) z
 
   good-ship : Good x
-  good-ship = good x (ap (λ (p : Paper). p .number) (first-passed (shipLines x) (all-pass-split (shipLines x) ((ltb (length buf) (recordLength (x .n)), refused 17 0) ∷ []) (passed .1 .1) .0)))
+  good-ship = good x (ap (λ (p : Paper). p .number) (first-passed (shipLines x) (all-pass-split (shipLines x) ((ltb (length buf) (bytesFor x), refused 17 0) ∷ []) (passed .1 .1) .0)))
 
   wrote : writingOf (length buf) x ≡ accepted
   unfolding writingOf
@@ -66,7 +66,7 @@ read-back buf f q a e z after t =
     let x = shipFrom f in
     let s = shaped-from f q in
     let v : writingOf (length buf) x .number ≡ 0 = sym (ap (λ (r : WriteAnswer). r .verdict .number) e) ∙ z in
-    let n : a .bytes ≡ recordLength (x .n) = ap (λ (r : WriteAnswer). r .bytes) e ∙ rw v refl in
+    let n : a .bytes ≡ bytesFor x = ap (λ (r : WriteAnswer). r .bytes) e ∙ rw v refl in
     rw (n, t, read-what-was-written x s buf (wrote buf x s v), ship-cleaned f (q .six) (good-ship buf x s v)) refl
 
 -- ---- beside a refusal
@@ -96,36 +96,33 @@ module _ (s : List ℕ) (a : ReadAnswer) (e : a ≡ fromReading (readingIn s)) (
   unfolding fromReading
   whole = read-whole s (sym (ap (λ (r : ReadAnswer). r .verdict .number) e) ∙ z)
 
-  -- the write is accepted, and its answer is the record's length
+  -- the write is accepted, and its answer is the length of what is written, which is no longer than the record
   pub writes : (buf : List ℕ) → length s ≤ length buf
       → let x = shipFrom (a .ship) in
-      fromVerdict (writingOf (length buf) x) x ≡ record { verdict = accepted; bytes = length s }
+      (fromVerdict (writingOf (length buf) x) x ≡ record { verdict = accepted; bytes = bytesFor x }) × (bytesFor x ≤ length s)
   unfolding fromVerdict pick
   writes buf h =
       let x = readingIn s .ship in
-      let l = sym (RoundTrip.length-there s x whole) in
-      let w = written-reads-same s x whole buf h in
-      ap (λ (y : Ship). fromVerdict (writingOf (length buf) y) y) same ∙ ap (λ (p : Paper). fromVerdict p x) (w .0) ∙ (λ i. record { verdict = accepted; bytes = l i })
+      let w = written-reads-same s x whole buf h in (
+        ap (λ (y : Ship). fromVerdict (writingOf (length buf) y) y) same ∙ ap (λ (p : Paper). fromVerdict p x) (w .0) ∙ ap (λ (y : Ship). record { verdict = accepted; bytes = bytesFor y }) (sym same),
+        subst (λ (y : Ship). bytesFor y ≤ length s) (sym same) (RoundTrip.room-there s x whole),
+      )
 
-  -- a record in the lowest version that holds its ship: the buffer then holds the record
-  pub written-back : Bytes s → versionIn s ≡ lowestFor (a .ship .kind) → (buf : List ℕ) → length s ≤ length buf
-      → let x = shipFrom (a .ship) in
-      written (writingOf (length buf) x) x buf ≡ s ++ drop (length s) buf
-  unfolding shipFrom
+  -- a record in the lowest version that holds its ship: what is written has its length, and the buffer then holds the record
+  pub written-back : Bytes s → let x = shipFrom (a .ship) in versionIn s ≡ lowestFor x → (buf : List ℕ) → length s ≤ length buf
+      → (bytesFor x ≡ length s) × (written (writingOf (length buf) x) x buf ≡ s ++ drop (length s) buf)
   written-back b lowest buf h =
-      let w = write-what-was-read s (readingIn s .ship) b whole (lowest ∙ ap (λ (y : Ship). lowestFor (y .kind)) same) buf h in
-      ap (λ (y : Ship). written (writingOf (length buf) y) y buf) same ∙ w .1
+      let low = lowest ∙ ap lowestFor same in
+      let w = write-what-was-read s (readingIn s .ship) b whole low buf h in
+      (ap bytesFor same ∙ sym (RoundTrip.length-there s (readingIn s .ship) whole low), ap (λ (y : Ship). written (writingOf (length buf) y) y buf) same ∙ w .1)
 
   -- a record in any version: the bytes that the buffer then holds have the same answer
   pub written-same : (buf : List ℕ) → length s ≤ length buf
       → let x = shipFrom (a .ship) in
-      fromReading (readingIn (take (length s) (written (writingOf (length buf) x) x buf))) ≡ a
+      fromReading (readingIn (take (bytesFor x) (written (writingOf (length buf) x) x buf))) ≡ a
   written-same buf h =
-      let x = readingIn s .ship in
-      let l = RoundTrip.length-there s x whole in
-      let w = written-reads-same s x whole buf h in
-      ap (λ (y : Ship). fromReading (readingIn (take (length s) (written (writingOf (length buf) y) y buf)))) same
-      ∙ ap (λ (n : ℕ). fromReading (readingIn (take n (written (writingOf (length buf) x) x buf)))) l
+      let w = written-reads-same s (readingIn s .ship) whole buf h in
+      ap (λ (y : Ship). fromReading (readingIn (take (bytesFor y) (written (writingOf (length buf) y) y buf)))) same
       ∙ ap fromReading (w .1 ∙ sym whole) ∙ sym e
 
 -- ---- one answer

@@ -52,7 +52,7 @@ pub extern "C" fn loadline_read(bytes: &[u8]) -> ReadAnswer
     }
 }
 
-// Writes a ship's record at the start of the buffer: refusals 3, 4, 7 to 11, 18, 22 and 17.
+// Writes a ship's record at the start of the buffer: refusals 3, 4, 7 to 11, 18, 22, 23 and 17.
 #[no_mangle]
 pub extern "C" fn loadline_write(buffer: &mut [u8], ship: FlatShip) -> WriteAnswer
     ensures { λ r. ⌜ r ≡ fromVerdict (writingOf (length (now (buffer .entry))) (shipFrom ship)) (shipFrom ship) ⌝ }
@@ -62,6 +62,6 @@ pub extern "C" fn loadline_write(buffer: &mut [u8], ship: FlatShip) -> WriteAnsw
     let v = writer::write(buffer, x);
     WriteAnswer {
         verdict: answers::paper_of(v),
-        bytes: answers::length_of(v, x.n),
+        bytes: answers::length_of(v, x),
     }
 }

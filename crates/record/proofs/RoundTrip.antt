@@ -298,6 +298,10 @@ module _ (s : List ℕ) (x : Ship) (e : readingIn s ≡ record { verdict = accep
       subst (λ (y : Ship). length s ≡ recordLength (headIn s .version) (y .n)) (ship-is s x e) (framed .exact)
       ∙ ap (λ (v : ℕ). recordLength v (x .n)) (version-is s ∙ lowest)
 
+  -- what is written of it is no longer
+  pub room-there : bytesFor x ≤ length s
+  room-there = subst (λ (y : Ship). bytesFor y ≤ length s) (ship-is s x e) (no-longer s framed)
+
   -- and any buffer with room for it is written
   pub writes-back : (room : ℕ) → length s ≤ room → writingOf room x ≡ accepted
   unfolding shipIn

@@ -32,7 +32,7 @@ use Rattle.steps.specs.Steps as Steps
 use Rattle.marks.specs.Marks as Marks
 use Rattle.trial.specs.Poop as Poop
 use Rattle.question.specs.Question as Question
-use Rattle.figures.specs.Figures.{k1, k2, bowHeight, marksRow, askedRow, house, figures, agree, allAgree}
+use Rattle.figures.specs.Figures.{k1, k2, bowHeight, marksRow, askedRow, setIn, figures, agree, allAgree}
 
 -- what a figure computes through
 unfoldable pub Tools : Type 0
@@ -40,11 +40,11 @@ unfolding Pick.pick Divide.ceilDiv Row.gain Row.height Table27.table27 Table28.t
 Tools = Unit {0}
 
 unfoldable pub Reader : Type 0
-unfolding Fields.pack Fields.piece Fields.unpack Fields.number Layout.kindBits Layout.spareBits Layout.lastTypeIn Layout.houseIn Layout.spareIn Layout.headIn Layout.placesIn Layout.shipIn Reading.sparesIn Checks.firstFrom Checks.fieldOut Checks.breaks Checks.breachAt Checks.firstBreach
+unfolding Fields.pack Fields.piece Fields.unpack Fields.number Layout.kindBits Layout.spareBits Layout.breadthBits Layout.houseSize Layout.lastTypeIn Layout.houseIn Layout.spareIn Layout.headIn Layout.placesIn Layout.shipIn Reading.sparesIn Checks.firstFrom Checks.fieldOut Checks.breaks Checks.breachAt Checks.firstBreach
 Reader = Unit {0}
 
 unfoldable pub Houses : Type 0
-unfolding Length.partOf Length.total Length.coveredLength Height.ordinaryHeight Height.raisedHeight Height.standardHeight Height.heightRatio Effective.limitedLength Effective.exactEffective Effective.exactEffectiveLength Effective.those Effective.effectiveLength Forecastle.houseThat Forecastle.isForecastle Forecastle.forecastleOf Amidships.coversAmidships Amidships.amidshipsOf Cover.isAmidships Cover.reachOf Cover.reach
+unfolding Length.partOf Length.total Length.coveredLength Height.ordinaryHeight Height.raisedHeight Height.standardHeight Height.heightRatio Effective.limitedLength Effective.breadthRatio Effective.exactEffective Effective.exactEffectiveLength Effective.those Effective.effectiveLength Forecastle.houseThat Forecastle.isForecastle Forecastle.forecastleOf Amidships.coversAmidships Amidships.amidshipsOf Cover.isAmidships Cover.reachOf Cover.reach
 Houses = Unit {0}
 
 unfoldable pub Corrections : Type 0
@@ -60,5 +60,5 @@ unfolding Poop.poopHouse Poop.withFirst Poop.withPoop Poop.within Poop.marksWith
 Asking = Unit {0}
 
 pub claim : T (allAgree figures)
-unfolding k1 k2 bowHeight marksRow askedRow house figures agree allAgree Tools Reader Houses Corrections Marking Asking
+unfolding k1 k2 bowHeight marksRow askedRow setIn figures agree allAgree Tools Reader Houses Corrections Marking Asking
 claim = tt

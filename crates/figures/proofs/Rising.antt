@@ -17,7 +17,7 @@ use Rattle.trial.specs.Poop.{withPoop, fitsAt}
 use Rattle.question.specs.Question.{Reply, given, noLength, shortestFor, replyFor}
 use Rattle.question.proofs.Search.{is-shortest}
 use Rattle.poop.proofs.Theorems.{of-none}
-use Rattle.figures.specs.Figures.{house}
+use Rattle.figures.specs.Figures.{setIn, house}
 use Rattle.figures.proofs.Claim.{Tools, Reader, Houses, Corrections, Marking, Asking}
 
 abbrev ordinates : List ℕ → List Ordinate
@@ -41,7 +41,7 @@ rising = record {
 
 -- the checks accept it
 pub rising-accepted : first (shipLines rising) ≡ accepted
-unfolding rising house Tools Reader
+unfolding rising setIn Tools Reader
 rising-accepted = refl
 
 abbrev pub mark : ℕ → ℕ
@@ -56,16 +56,16 @@ untilRise zero k = noLength
 untilRise (suc m) k = elim (fits k) [ true ↦ given k | false ↦ elim (ltb (mark k) (mark (k + 1))) [ true ↦ noLength | false ↦ untilRise m (k + 1) ] ]
 
 gives-up : untilRise 801 0 ≡ noLength
-unfolding untilRise rising house Tools Reader Houses Corrections Marking Asking
+unfolding untilRise rising setIn Tools Reader Houses Corrections Marking Asking
 gives-up = refl
 
 fits-later : fits 280 ≡ true
-unfolding rising house Tools Reader Houses Corrections Marking Asking
+unfolding rising setIn Tools Reader Houses Corrections Marking Asking
 fits-later = refl
 
 -- height, wish and room for a poop pass, so the search answers
 asked : replyFor rising 150 822 ≡ shortestFor rising 150 822
-unfolding rising house Tools replyFor
+unfolding rising setIn Tools replyFor
 asked = refl
 
 pub stops-at-rise : ¬ (untilRise 801 0 ≡ replyFor rising 150 822)

@@ -103,10 +103,20 @@ asked wish = replyIn k2 1950 wish
 abbrev pub heightRow : ℕ → Frac → ℕ → Row
 heightRow k x mm = one k (x .top) (mm * x .bot)
 
--- an enclosed house, ends in mm forward of AP
-unfoldable pub house : ℕ → ℕ → ℕ → House
-house aft fore height =
-    record { enclosed = true; quarterdeck = false; aft = record { 0 = stationOf aft }; fore = record { 0 = stationOf fore }; height = record { 0 = height } }
+-- an enclosed house, ends in mm forward of AP, with breadths; and of full breadth
+unfoldable pub setIn : ℕ → ℕ → ℕ → ℕ → ℕ → House
+setIn aft fore height breadth beam = record {
+  enclosed = true;
+  quarterdeck = false;
+  aft = record { 0 = stationOf aft };
+  fore = record { 0 = stationOf fore };
+  height = record { 0 = height };
+  breadth = record { 0 = breadth };
+  beam = record { 0 = beam };
+}
+
+abbrev pub house : ℕ → ℕ → ℕ → House
+house aft fore height = setIn aft fore height 0 0
 
 -- k11's ordinates are all 0, and k12's are k1's, doubled
 abbrev pub level : List Ordinate
@@ -130,7 +140,7 @@ figures =
     ∷ one 1 (bowHeightOf (shipIn k1)) 4029337
     ∷ marksRow 1 (sheetIn k1) (0 ∷ 0 ∷ 0 ∷ 2030 ∷ 1948 ∷ 2113 ∷ 2163 ∷ 1948 ∷ 1866 ∷ [])
     ∷ headRow 2 k2 1
-    ∷ row 2 (houseFields (houseIn (houseAt k2 0))) (1 ∷ 0 ∷ 80000 ∷ 90000 ∷ 2000 ∷ 0 ∷ [])
+    ∷ row 2 (houseFields (houseIn 1 (houseAt 1 k2 0))) (1 ∷ 0 ∷ 80000 ∷ 90000 ∷ 2000 ∷ 0 ∷ 0 ∷ 0 ∷ [])
     ∷ one 2 (deductionOf (shipIn k2)) 69095
     ∷ marksRow 2 (sheetIn k2) (0 ∷ 0 ∷ 0 ∷ 1024 ∷ 921 ∷ 1128 ∷ 1178 ∷ 921 ∷ 818 ∷ [])
     ∷ one 7 (tableA 61500) 593500

@@ -1,7 +1,5 @@
 // Reads each record that an argument names, prints its ship or its refusal, and writes an accepted ship back: to the same bytes, or to those it then prints.
 // What must come is in `stdout`, made by `samples records` of twin/, which shares no code with the crates.
-use record::HEAD_BYTES;
-use record::HOUSE_BYTES;
 use record::MOST_HOUSES;
 use ship::Ship;
 use ship::refusal::Verdict;
@@ -36,11 +34,11 @@ fn is_untouched(out: &[u8; 128], e: usize) -> bool {
     true
 }
 
-// Prints the record of a ship with `n` houses, which stands first in `out` with nothing behind it.
-fn print_written(out: &[u8; 128], n: usize) {
+// Prints the record of a ship, which stands first in `out` with nothing behind it.
+fn print_written(out: &[u8; 128], x: Ship) {
     let t = &out[..];
-    if n as u64 <= MOST_HOUSES {
-        let e = HEAD_BYTES + HOUSE_BYTES * n;
+    if x.n as u64 <= MOST_HOUSES {
+        let e = record::record_bytes(record::lowest_for(x), x.n);
         show::hex(&t[0..e]);
         if !is_untouched(out, e) {
             show::text(b" and more");
@@ -57,7 +55,7 @@ fn back(x: Ship, s: &[u8]) {
                 show::text(b" back");
             } else {
                 show::text(b" as ");
-                print_written(&out, x.n);
+                print_written(&out, x);
             }
         }
         Verdict::Refused(r) => {

@@ -1,5 +1,5 @@
 // Writes each ship that an argument names into a buffer of the length it names, and prints the verdict and the whole buffer.
-// A file is 56 numbers of eight bytes: the buffer's length, the ship's numbers as they are held, and eight houses of five numbers.
+// A file is 72 numbers of eight bytes: the buffer's length, the ship's numbers as they are held, and eight houses of seven numbers.
 // What must come is in `stdout`, made by `samples writes` of twin/, which shares no code with the crates.
 ghost use Prim.Native.Nat.{_<_};
 ghost use lib.ListN.{length};
@@ -11,8 +11,8 @@ use units::Span;
 use units::Station;
 
 // The number at place k.
-fn at(buf: &[u8; 448], k: usize) -> u64
-    requires { ⌜ k < 56 ⌝ }
+fn at(buf: &[u8; 576], k: usize) -> u64
+    requires { ⌜ k < 72 ⌝ }
 {
     let t = &buf[..];
     let a = 8 * k;
@@ -20,20 +20,22 @@ fn at(buf: &[u8; 448], k: usize) -> u64
     bits::word(&t[a..e])
 }
 
-fn house(buf: &[u8; 448], k: usize) -> House
+fn house(buf: &[u8; 576], k: usize) -> House
     requires { ⌜ k < 8 ⌝ }
 {
-    let i = 16 + 5 * k;
+    let i = 16 + 7 * k;
     House {
         enclosed: at(buf, i) == 1,
         quarterdeck: at(buf, i + 1) == 1,
         aft: Station(at(buf, i + 2)),
         fore: Station(at(buf, i + 3)),
         height: Span(at(buf, i + 4)),
+        breadth: Span(at(buf, i + 5)),
+        beam: Span(at(buf, i + 6)),
     }
 }
 
-fn vessel(buf: &[u8; 448]) -> Ship {
+fn vessel(buf: &[u8; 576]) -> Ship {
     let houses = [
         house(buf, 0),
         house(buf, 1),
@@ -81,7 +83,7 @@ fn put(x: Ship, out: &mut [u8]) {
 }
 
 fn one(i: usize) {
-    let mut buf = [0u8; 448];
+    let mut buf = [0u8; 576];
     files::named(i, &mut buf);
     let room = at(&buf, 0) as usize;
     let mut out = [0xA5u8; 128];

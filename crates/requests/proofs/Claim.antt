@@ -1,13 +1,13 @@
 -- Every figure of 02's table is what the definitions give: one claim, by computing.
 use lib.Dec.{T}
 use Rattle.bits.specs.Fields.{bytes}
-use Rattle.record.specs.Layout.{lowestFor, headBytes, houseBytes, recordBytes}
+use Rattle.record.specs.Layout.{anySetIn, lowestFor, headBytes, houseBytes, recordBytes}
 use Rattle.record.specs.Reading.{readingIn}
 use Rattle.record.specs.Writing.{writingOf}
-use Rattle.figures.specs.Figures.{k1, marksRow, askedRow, house, agree, allAgree}
+use Rattle.figures.specs.Figures.{k1, k2, marksRow, askedRow, setIn, agree, allAgree}
 use Rattle.figures.proofs.Claim.{Tools, Reader, Houses, Corrections, Marking, Asking}
-use Rattle.requests.specs.Requests.{r1, r4, long5, full5, short5, covered5, requests}
+use Rattle.requests.specs.Requests.{r1, r4, long5, full5, short5, covered5, sides6, full6, bare6, requests}
 
 pub claim-02 : T (allAgree requests)
-unfolding bytes lowestFor headBytes houseBytes recordBytes readingIn writingOf marksRow askedRow house k1 r1 r4 long5 full5 short5 covered5 requests agree allAgree Tools Reader Houses Corrections Marking Asking
+unfolding bytes anySetIn lowestFor headBytes houseBytes recordBytes readingIn writingOf marksRow askedRow setIn k1 k2 r1 r4 long5 full5 short5 covered5 sides6 full6 bare6 requests agree allAgree Tools Reader Houses Corrections Marking Asking
 claim-02 = tt

@@ -1,5 +1,6 @@
--- 02: the figures stated with its requests and their readings, in the same form; for §8, which has none, figures worked by hand, and for §5 some besides. A row has the request's number.
+-- 02: the figures stated with its requests and their readings, in the same form; for §8, which has none, figures worked by hand, and for §5 and §6 some besides. A row has the request's number.
 use Prim.Native.Nat.{ℕ, _+_, _*_}
+use mathlib.Core.Bool.{true}
 use mathlib.Core.List.{List, [], _∷_, _++_}
 use lib.ListN.{drop}
 use Rattle.whole.specs.Frac.{ceil}
@@ -14,15 +15,17 @@ use Rattle.record.specs.Writing.{writingOf}
 use Rattle.tabular.specs.Tabular.{coversAdd}
 use Rattle.basis.specs.Basis.{basisOf}
 use Rattle.houses.specs.Height.{heightRatio}
-use Rattle.houses.specs.Effective.{effectiveLength}
+use Rattle.houses.specs.Effective.{exactEffective, effectiveLength}
 use Rattle.houses.specs.Amidships.{amidshipsOf}
 use Rattle.corrections.specs.Depth31.{depthReduction}
 use Rattle.sheer.specs.Sheer.{exactDeficiency, exactAddition, excess, deficiency, addition}
-use Rattle.steps.specs.Steps.{summerOf}
+use Rattle.percentages.specs.Table37.{ordinaryRow}
+use Rattle.deduction.specs.Deduction37.{deducted}
+use Rattle.steps.specs.Steps.{effectiveE, summerOf}
 use Rattle.marks.specs.Marks.{sheetIn}
 use Rattle.trial.specs.Poop.{withPoop}
 use Rattle.question.specs.Question.{Reply, replyIn}
-use Rattle.figures.specs.Figures.{Row, row, one, k1, particulars, forecastle, refusalOf, marksRow, askedRow, house}
+use Rattle.figures.specs.Figures.{Row, row, one, k1, k2, particulars, forecastle, deductionOf, refusalOf, marksRow, askedRow, setIn, house}
 
 -- ---- §1: number, place and overlap, of houses on a ship of 90 m, from aft to fore each
 abbrev pub refusalRow : ℕ → Paper → List ℕ → Row
@@ -92,6 +95,27 @@ covered5 = 0x28 ∷ 0x20 ∷ particulars ++ forecastle
 
 abbrev pub second5 : List ℕ
 second5 = 0x22 ∷ 0x00 ∷ particulars
+
+-- ---- §6: k2 in version 3, its house with a breadth of two bytes in a ship of 10 m. sample/setin.record has 9500 mm
+unfoldable pub sides6 : ℕ → ℕ → List ℕ
+sides6 a b = 0x32 ∷ 0x20 ∷ particulars ++ forecastle ++ (a ∷ b ∷ 0x27 ∷ 0x10 ∷ [])
+
+-- in version 3 with full breadth, and with no bytes for breadths
+unfoldable pub full6 : List ℕ
+full6 = 0x32 ∷ 0x20 ∷ particulars ++ forecastle ++ (0x00 ∷ 0x00 ∷ 0x00 ∷ 0x00 ∷ [])
+
+unfoldable pub bare6 : List ℕ
+bare6 = 0x32 ∷ 0x20 ∷ particulars ++ forecastle
+
+-- one house on a ship of 90 m, of 10 m from 20 m on
+abbrev pub alone6 : ℕ → ℕ → Paper
+alone6 breadth beam = listed (setIn 20000 30000 2000 breadth beam ∷ [])
+
+-- what 37 grants such a ship of type B for a forecastle of 6.7 m alone
+abbrev pub granted6 : ℕ → ℕ → ℕ
+granted6 breadth beam =
+    let h = setIn 83300 90000 2000 breadth beam in
+    deducted true ordinaryRow (exactEffective 90000 h) 90000 (effectiveLength 90000 (h ∷ []))
 
 -- ---- §8: the borders of its cancelling. The mean of a ship of 90 m, by its after sum in mm: 50 and 75 per cent of standard are 1334 and 2001 mm. The forward
 -- sum is 800 mm above standard, an excess of 100 mm
@@ -163,11 +187,35 @@ requests =
     ∷ refusalRow 5 (readingIn (other5 0x18 0x18 0x6a 0x11) .verdict) (3 ∷ 0 ∷ 0 ∷ [])
     ∷ refusalRow 5 (readingIn (other5 0x2a 0x18 0x6a 0x11) .verdict) (3 ∷ 0 ∷ 0 ∷ [])
     ∷ refusalRow 5 (readingIn (other5 0x04 0x18 0x6a 0x11) .verdict) (2 ∷ 0 ∷ 0 ∷ [])
-    ∷ refusalRow 5 (readingIn (other5 0x34 0x18 0x6a 0x11) .verdict) (2 ∷ 0 ∷ 0 ∷ [])
+    ∷ refusalRow 5 (readingIn (other5 0x44 0x18 0x6a 0x11) .verdict) (2 ∷ 0 ∷ 0 ∷ [])
     ∷ refusalRow 5 (readingIn second5 .verdict) (0 ∷ 0 ∷ 0 ∷ [])
     ∷ row 5 (recordBytes (shipIn second5)) k1
     ∷ row 5 (recordBytes (shipIn covered5)) covered5
     ∷ askedRow 5 (replyIn covered5 1950 1000) (0 ∷ 0 ∷ 0 ∷ 96 ∷ [])
+    ∷ one 6 (effectiveE (shipIn (sides6 0x25 0x1c))) 9500000
+    ∷ one 6 (deductionOf (shipIn (sides6 0x25 0x1c))) 65640
+    ∷ one 6 (summerIn (sides6 0x25 0x1c)) 1028
+    ∷ one 6 (summerIn (sides6 0x23 0xf0)) 1031
+    ∷ marksRow 6 (sheetIn (sides6 0x23 0xef)) (23 ∷ 0 ∷ 0 ∷ 0 ∷ 0 ∷ 0 ∷ 0 ∷ 0 ∷ 0 ∷ [])
+    ∷ one 6 (effectiveLength 100000 (setIn 0 10001 1000 9000 9000 ∷ house 20000 30002 1000 ∷ house 95000 100000 1000 ∷ [])) 12196584
+    ∷ one 6 (effectiveLength 100000 (house 0 10001 1000 ∷ setIn 20000 30002 1000 1 1 ∷ house 95000 100000 1000 ∷ [])) 12196584
+    ∷ one 6 (effectiveLength 100000 (house 0 10001 1000 ∷ house 20000 30002 1000 ∷ setIn 95000 100000 1000 65535 65535 ∷ [])) 12196584
+    ∷ one 6 (granted6 0 0) 46294
+    ∷ one 6 (granted6 9403 10000) 43530
+    ∷ one 6 (granted6 9402 10000) 0
+    ∷ refusalRow 6 (alone6 10000 10000) (0 ∷ 0 ∷ 0 ∷ [])
+    ∷ refusalRow 6 (alone6 10001 10000) (23 ∷ 0 ∷ 0 ∷ [])
+    ∷ refusalRow 6 (alone6 0 10000) (23 ∷ 0 ∷ 0 ∷ [])
+    ∷ refusalRow 6 (alone6 10000 0) (23 ∷ 0 ∷ 0 ∷ [])
+    ∷ refusalRow 6 (alone6 9200 10000) (0 ∷ 0 ∷ 0 ∷ [])
+    ∷ refusalRow 6 (alone6 65535 65536) (23 ∷ 0 ∷ 0 ∷ [])
+    ∷ refusalRow 6 (listed (setIn 0 10000 2000 1 0 ∷ house 20000 20000 2000 ∷ [])) (9 ∷ 1 ∷ 0 ∷ [])
+    ∷ refusalRow 6 (readingIn full6 .verdict) (0 ∷ 0 ∷ 0 ∷ [])
+    ∷ refusalRow 6 (readingIn bare6 .verdict) (5 ∷ 0 ∷ 0 ∷ [])
+    ∷ row 6 (recordBytes (shipIn full6)) k2
+    ∷ row 6 (recordBytes (shipIn (sides6 0x25 0x1c))) (sides6 0x25 0x1c)
+    ∷ refusalRow 6 (writingOf 39 (shipIn (sides6 0x25 0x1c))) (0 ∷ 0 ∷ 0 ∷ [])
+    ∷ refusalRow 6 (writingOf 38 (shipIn (sides6 0x25 0x1c))) (17 ∷ 0 ∷ 0 ∷ [])
     ∷ one 8 (lacks8 1333) 83438
     ∷ one 8 (lacks8 1334) 83375
     ∷ one 8 (lacks8 1335) 83238

@@ -9,9 +9,9 @@ fn argument(i: usize) -> Parsed {
     decimal::parse(&buf[..n])
 }
 
-// The longest record has 91 bytes; one more tells every longer input from a record.
+// The longest record has 123 bytes; one more tells every longer input from a record.
 fn answer(height: u64, wish: u64) {
-    let mut buf = [0u8; 92];
+    let mut buf = [0u8; 124];
     let n = io::read_full(STDIN_FILENO, &mut buf);
     let a = poop::of_record(&buf[..n], height, wish);
     match a {

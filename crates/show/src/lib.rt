@@ -102,6 +102,8 @@ fn house(h: House) {
     next_station(h.aft);
     next_station(h.fore);
     next(h.height.0);
+    next(h.breadth.0);
+    next(h.beam.0);
     text(b"]");
 }
 

@@ -1,7 +1,7 @@
 -- What is added before sheer: what the roundings cost along the steps.
 use mathlib.Core.Bool.{Bool, true, false, true≢false}
 use mathlib.Core.Path.{_≡_, refl, sym, ap, _∙_}
-use Prim.Native.Nat.{ℕ, _+_, _≤_}
+use Prim.Native.Nat.{ℕ, _+_, _≤_, _<_}
 use native.Mathlib.Omega.{arith}
 use Rattle.whole.specs.Frac.{Frac, _+f_, _*f_, whole, frac}
 use Rattle.whole.specs.Pick.{pick}
@@ -12,7 +12,7 @@ use Rattle.corrections.specs.Short29.{shortB}
 use Rattle.corrections.specs.Fullness30.{fullness}
 use Rattle.corrections.specs.Depth31.{depthAddition}
 use Rattle.corrections.specs.Gathered.{madeFull, exactMadeFull, added, exactAdded}
-use Rattle.corrections.proofs.Short29.{short-within, short-long}
+use Rattle.corrections.proofs.Short29.{short-within, short-long, short-falls}
 use Rattle.corrections.proofs.Fullness30.{fullness-within, fullness-rises}
 use Rattle.corrections.proofs.Depth31.{depth-within}
 
@@ -44,3 +44,12 @@ added-long m t u l d cb e h = ap (λ (n : ℕ). fullness cb (m + n) + depthAddit
     none : (b : Bool) → pick b (shortB l e) 0 ≡ 0
     none false = refl
     none true = short-long l e h
+
+-- and a greater E never more
+pub added-falls : (m : ℕ) (t : Bool) (l d cb e f : ℕ) → 0 < l → e ≤ f → added m t l d cb f ≤ added m t l d cb e
+unfolding added madeFull pick
+added-falls m t l d cb e f p h = omega (arith, fullness-rises cb (m + pick t (shortB l f) 0) (m + pick t (shortB l e) 0) (sums t))
+  where
+    sums : (t : Bool) → m + pick t (shortB l f) 0 ≤ m + pick t (shortB l e) 0
+    sums false = omega arith
+    sums true = omega (arith, short-falls l e f p h)

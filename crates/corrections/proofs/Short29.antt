@@ -5,11 +5,11 @@ use native.Mathlib.Omega.{arith}
 use borrow.Author.Tests.{ltb-false}
 use lib.Dec.{ltb}
 use Rattle.whole.specs.Divide.{ceilDiv}
-use Rattle.whole.specs.Frac.{Frac, _≈f_, _<f?_, _+f_, _-f_, _*f_, whole, frac}
+use Rattle.whole.specs.Frac.{Frac, _≤f_, _≈f_, _<f?_, _+f_, _-f_, _*f_, whole, frac}
 use Rattle.whole.specs.Round.{Within, Below}
 use Rattle.whole.proofs.Divide.{ceil-most, ceil-nought, mul-most}
-use Rattle.whole.proofs.Frac.{bot-of, untested-frac, trans≈, *-mono≤}
-use Rattle.whole.proofs.Round.{loosen, restate, exactly, ceil-of, near-less, near-times, near-ceil}
+use Rattle.whole.proofs.Frac.{bot-of, untested-frac, refl≤, same, sym≈, trans≈, trans≤, *-mono≤, sub-mono}
+use Rattle.whole.proofs.Round.{loosen, restate, exactly, ceil-of, ceil-mono, near-less, near-times, near-ceil}
 use Rattle.corrections.specs.Short29.{shortB, exactShortB}
 
 -- in one product: where a test fails it is nothing anyhow
@@ -51,3 +51,12 @@ pub short-long : (l e : ℕ) → 100000 ≤ l → shortB l e ≡ 0
 short-long l e h =
     let z : (350 * l - e) * (3 * (100000 - l)) ≡ 0 = (let k : 100000 - l ≡ 0 = omega arith in rw k (omega arith)) in
     sym (short-quotient l e (omega arith)) ∙ rw z (ceil-nought (400 * l) (omega arith))
+
+-- a greater E never adds more
+pub short-falls : (l e f : ℕ) → 0 < l → e ≤ f → shortB l f ≤ shortB l e
+unfolding shortB
+short-falls l e f p h =
+    let k = frac (3 * (100000 - l)) (400 * l) in
+    let less : whole (350 * l) -f whole f ≤f whole (350 * l) -f whole e = sub-mono (refl≤ (whole (350 * l))) (omega arith) in
+    ceil-mono (exactShortB l (whole f)) (exactShortB l (whole e))
+    (trans≤ (same (sym≈ (one-product l (whole f) p))) (trans≤ (*-mono≤ less (refl≤ k)) (same (one-product l (whole e) p))))

@@ -5,7 +5,7 @@ use mathlib.Core.List.{List, [], _∷_}
 use Prim.Native.Nat.{ℕ, _+_, _*_, _-_, _/_, _≤_, _<_}
 use native.Mathlib.Omega.{arith}
 use native.Mathlib.Nat.{le-refl, div-mul-le-self, lt-div-mul-add, mul-one, one-mul}
-use borrow.Author.Tests.{ltb-true, lt-ltb, le-ltb}
+use borrow.Author.Tests.{ltb-true, ltb-false, lt-ltb, le-ltb}
 use lib.Dec.{ltb}
 use lib.ListN.{length, getD}
 use Rattle.whole.specs.Frac.{Frac, _≤f_, _<f?_, _≈f_, _+f_, _*f_, whole, frac}
@@ -15,8 +15,8 @@ use Rattle.whole.specs.Row.{Rising, height, along}
 use Rattle.whole.proofs.Pick.{by-cases, by-both}
 use Rattle.whole.proofs.Divide.{mul-most, floor-most, min-mul}
 use Rattle.whole.proofs.Frac.{bot-of, refl≤, trans≤, *-mono≤, refl≈, <?-same}
-use Rattle.whole.proofs.Round.{near-self, loosen, by-floor, floor-of, floor-under, near-times, near-mult, near-floor, millionths-down}
-use Rattle.whole.proofs.Row.{heightIn, near-along, along-most, height-by, height-of-two, entry-rises, entry-most}
+use Rattle.whole.proofs.Round.{near-self, loosen, by-floor, floor-of, floor-under, floor-mono, near-times, near-mult, near-floor, millionths-down}
+use Rattle.whole.proofs.Row.{heightIn, near-along, along-mono, along-most, height-by, height-of-two, entry-rises, entry-most}
 use Rattle.deduction.specs.Deduction37.{full, exactFull, share, exactShare, ofFull, deduction, exactDeduction, lacksForecastle, deducted, exactDeducted}
 use Rattle.deduction.specs.Tenth37.{tenth, shareFrom}
 
@@ -149,3 +149,32 @@ deducted-same t u row f l e h = ap (λ (b : Bool). pick b 0 (deduction row l e))
     either : (b : Bool) → lacksForecastle b f l ≡ false
     either true = h
     either false = refl
+
+-- ---- a greater E, and a longer forecastle, never deduct less
+share-grows : (row : List ℕ) (l e f : ℕ) → e ≤ f → share row l e ≤ share row l f
+unfolding share exactShare
+share-grows row l e f h =
+    let t = frac 1 (100 * l) in
+    floor-mono (exactShare row l (whole e) *f whole 1000000) (exactShare row l (whole f) *f whole 1000000)
+    (*-mono≤ (*-mono≤ (along-mono row (*-mono≤ {x = whole e} {y = whole f} (omega arith) (refl≤ t))) (refl≤ (frac 1 1000))) (refl≤ (whole 1000000)))
+
+pub deduction-grows : (row : List ℕ) (l e f : ℕ) → e ≤ f → deduction row l e ≤ deduction row l f
+unfolding deduction ofFull
+deduction-grows row l e f h =
+    let s = share row l e in
+    let t = share row l f in
+    floor-mono (whole (full l) *f frac s 1000000) (whole (full l) *f frac t 1000000)
+    (*-mono≤ {z = frac s 1000000} {w = frac t 1000000} (refl≤ (whole (full l))) (omega (arith, share-grows row l e f h)))
+
+pub deducted-grows : (typeB : Bool) (row : List ℕ) {x y : Frac} (l e f : ℕ) → x ≤f y → e ≤ f → deducted typeB row x l e ≤ deducted typeB row y l f
+unfolding deducted lacksForecastle pick
+deducted-grows false row l e f h k = deduction-grows row l e f k
+deducted-grows true row {x} {y} l e f h k = go (x <f? whole (70 * l)) (y <f? whole (70 * l)) refl refl
+  where
+    go : (a b : Bool) → (x <f? whole (70 * l)) ≡ a → (y <f? whole (70 * l)) ≡ b → pick a 0 (deduction row l e) ≤ pick b 0 (deduction row l f)
+    go true b p q = omega arith
+    go false false p q = deduction-grows row l e f k
+    go false true p q =
+        let m : whole (70 * l) ≤f x = record { le = ltb-false (x .top * 1) (70 * l * x .bot) p } in
+        let n = ltb-true (y .top * 1) (70 * l * y .bot) q in
+        absurd (omega (arith, trans≤ m h, n))

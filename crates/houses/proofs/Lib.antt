@@ -5,3 +5,4 @@ pub mod Rounded
 pub mod Midship
 pub mod Foremost
 pub mod Amidships
+pub mod SetIn

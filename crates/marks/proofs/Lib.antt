@@ -4,3 +4,4 @@ pub mod Demand
 pub mod Split
 pub mod OneToOne
 pub mod Types
+pub mod SetIn

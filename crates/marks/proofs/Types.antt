@@ -32,7 +32,7 @@ unfolding sheetFor
 four-kinds x kind b = ap₂ sheetAt (four-particulars x kind b) (four-summers x kind b)
 
 -- the S that a call gives is the steps'
-given-summer : (s : List ℕ) (x : Ship) → readingIn s ≡ record { verdict = accepted; ship = x } → (m : Marks) → sheet (Given m) ≡ sheetIn s → m .s ≡ summerOf x
+pub given-summer : (s : List ℕ) (x : Ship) → readingIn s ≡ record { verdict = accepted; ship = x } → (m : Marks) → sheet (Given m) ≡ sheetIn s → m .s ≡ summerOf x
 unfolding sheetFor sheetAt sixMarks
 given-summer s x e m g =
     ap (λ (n : Marks). n .s) (given-marks (first (markLines (particularsOf x) (summerOf x))) (sixMarks (particularsOf x) (summerOf x)) m (g ∙ sheet-read s x e) .1)

@@ -2,3 +2,4 @@ pub mod Bound
 pub mod Particulars
 pub mod Depth
 pub mod Types
+pub mod SetIn

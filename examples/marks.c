@@ -70,8 +70,12 @@ int main(int argc, char **argv)
     }
     loadline_ship ship = read.ship;
     printf("L %" PRIu64 " type %s houses %" PRIu64, ship.length, types[ship.kind], ship.n);
-    for (size_t i = 0; i < ship.n; i++)
-        printf(" %" PRId64 "..%" PRId64, ship.houses[i].aft, ship.houses[i].fore);
+    for (size_t i = 0; i < ship.n; i++) {
+        loadline_house house = ship.houses[i];
+        printf(" %" PRId64 "..%" PRId64, house.aft, house.fore);
+        if (house.beam > 0)
+            printf(" %" PRIu64 "/%" PRIu64, house.breadth, house.beam);    /* set-in sides */
+    }
     printf("\n");
 
     printf("poop of 1950 mm for S 1000: ");

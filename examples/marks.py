@@ -4,13 +4,23 @@ from ctypes import CDLL, POINTER, Structure, c_char, c_char_p, c_size_t, create_
 from ctypes import c_int64 as i64, c_uint64 as u64
 from pathlib import Path
 
-LONGEST = 91  # bytes of a record
+LONGEST = 123  # bytes of a record
 OVERLAP = 11  # the refusal that has one, in mm
 TYPES = ("A", "B", "B-60", "B-100", "B with portable covers")  # by their number in the record
 
 
 class House(Structure):
-    _fields_ = [("enclosed", u64), ("quarterdeck", u64), ("aft", i64), ("fore", i64), ("height", u64)]
+    _fields_ = [
+        ("enclosed", u64),
+        ("quarterdeck", u64),
+        ("aft", i64),
+        ("fore", i64),
+        *((name, u64) for name in ("height", "breadth", "beam")),
+    ]
+
+    def __str__(self):
+        sides = f" {self.breadth}/{self.beam}" if self.beam else ""  # set in
+        return f"{self.aft}..{self.fore}{sides}"
 
 
 class Ship(Structure):
@@ -49,7 +59,7 @@ class WriteAnswer(Answer):
 
 
 # The number is the header's: a library with other structs, calls or kinds has another.
-library = CDLL(str(Path(__file__).resolve().parent.parent / "target/lib/libloadline.so.3"))
+library = CDLL(str(Path(__file__).resolve().parent.parent / "target/lib/libloadline.so.4"))
 # ctypes takes what is not declared for a C int, so each call is declared.
 for call, result, arguments in (
     (library.loadline_marks, MarksAnswer, [c_char_p, c_size_t]),
@@ -69,7 +79,7 @@ def show(record):
         print("no ship:", read)
         return
     ship = read.ship
-    houses = "".join(f" {house.aft}..{house.fore}" for house in ship.houses[: ship.n])
+    houses = "".join(f" {house}" for house in ship.houses[: ship.n])
     print(f"L {ship.length} type {TYPES[ship.kind]} houses {ship.n}{houses}")
 
     poop = library.loadline_shortest_poop(record, len(record), 1950, 1000)

@@ -7,7 +7,7 @@ use std::{env, fs::File, io::Read, process::ExitCode};
 #[allow(dead_code)] // this program does not look at every field
 mod loadline {
     #[repr(C)] #[derive(Clone, Copy)]
-    pub struct House { pub enclosed: u64, pub quarterdeck: u64, pub aft: i64, pub fore: i64, pub height: u64 }
+    pub struct House { pub enclosed: u64, pub quarterdeck: u64, pub aft: i64, pub fore: i64, pub height: u64, pub breadth: u64, pub beam: u64 }
     #[repr(C)] #[derive(Clone, Copy)]
     pub struct Ship {
         pub kind: u64, pub n: u64, pub length: u64, pub depth: u64, pub moulded: u64, pub block: u64, pub waterplane: u64,
@@ -67,19 +67,25 @@ fn show(record: &[u8]) -> Result<(), loadline::Refusal> {
     print!("L {} type {} houses {}", ship.length, TYPES[ship.kind as usize], ship.n);
     for house in &ship.houses[..ship.n as usize] {
         print!(" {}..{}", house.aft, house.fore);
+        if house.beam > 0 {
+            print!(" {}/{}", house.breadth, house.beam); // set-in sides
+        }
     }
     print!("\npoop of 1950 mm for S 1000: ");
     match loadline::shortest_poop(record, 1950, 1000) {
         Ok(decimetres) => println!("{decimetres} dm"),
         Err(r) => println!("{r}"),
     }
-    let mut copy = [0; 91];
+    let mut copy = [0; LONGEST];
     match loadline::write(&mut copy, &ship) {
         Ok(bytes) if copy[..bytes] == *record => println!("written back: the same {bytes} bytes"),
         _ => println!("written back: not the same"),
     }
     Ok(())
 }
+
+/// Bytes of a record.
+const LONGEST: usize = 123;
 
 /// The types by their number in the record, as an office writes them.
 const TYPES: [&str; 5] = ["A", "B", "B-60", "B-100", "B with portable covers"];
@@ -91,7 +97,7 @@ fn main() -> ExitCode {
     };
     // One byte more than a record can have: a longer file is refused, not cut to a record.
     let mut record = Vec::new();
-    if let Err(why) = File::open(&path).and_then(|file| file.take(92).read_to_end(&mut record)) {
+    if let Err(why) = File::open(&path).and_then(|file| file.take(LONGEST as u64 + 1).read_to_end(&mut record)) {
         eprintln!("marks: {}: {why}", path.to_string_lossy());
         return ExitCode::FAILURE;
     }

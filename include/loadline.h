@@ -1,7 +1,7 @@
 /*
  * loadline.h: load-line marks that are proved.
  *
- * From a ship record of at most 91 bytes, of version 1 or 2: the six marks of the load-line Convention's Annex I with the
+ * From a ship record of at most 123 bytes, of version 1 to 3: the six marks of the load-line Convention's Annex I with the
  * 2003 amendments, or one numbered refusal; the shortest poop for a wished summer mark; a reader and a writer of the record.
  *
  * For x86-64 Linux. Link libloadline.a, or libloadline.so; ./library makes both. They need memcpy and nothing else.
@@ -27,10 +27,10 @@
  *
  *   No.  When                                                              Place                         Calls
  *    1   under 27 bytes                                                                                  M P R
- *    2   version 0 or above 2                                                                            M P R
+ *    2   version 0 or above 3                                                                            M P R
  *    3   type above 4; above 1 in a record of version 1                                                  M P R W
  *    4   n above 8                                                                                       M P R W
- *    5   length is not 27 + 8n                                                                           M P R
+ *    5   length is not 27 + 8n; 27 + 12n in a record of version 3                                        M P R
  *    6   a spare bit set                                                                                 M P R
  *    7   a field 1 to 13 outside its range or bits                         lowest such field             M P R W
  *   22   type B-60 or B-100 of 100 m or less, or portable covers
@@ -39,6 +39,9 @@
  *    9   house: fore end not above aft end, fore end at or below 0,
  *        aft end at or above L, aft end below -20000, fore end
  *        above L + 20000, height outside 1 to 8191                         first such house, from 0      M P R W
+ *   23   house: one breadth alone zero, the house's above the ship's, more
+ *        than 4 per cent of the ship's inside on a side (23 beam >
+ *        25 breadth), or, in W, a breadth above 65535                      first such house, from 0      M P R W
  *   10   raised quarterdeck: not enclosed, aft end above 0,
  *        or fore end at or above L                                         first such house, from 0      M P R W
  *        11 and 18 are one check: the first house whose aft end is below
@@ -61,8 +64,8 @@
 
 /* Another number with every change of a struct, a call, or what a number of an answer may be. The shared library carries it
  * in its own name, libloadline.so.N, so that no program that was linked to one loads it for another.
- * 2: every answer has an overlap. 3: kinds 2 to 4, refusal 22. */
-#define LOADLINE_HEADER 3
+ * 2: every answer has an overlap. 3: kinds 2 to 4, refusal 22. 4: a house has breadths, refusal 23. */
+#define LOADLINE_HEADER 4
 
 #ifdef __cplusplus
 extern "C" {
@@ -89,13 +92,15 @@ enum loadline_refusal {
     LOADLINE_NO_LENGTH_FITS = 16,
     LOADLINE_SHORT_BUFFER = 17,
     LOADLINE_OUT_OF_ORDER = 18,
-    LOADLINE_LENGTH_FOR_TYPE = 22
+    LOADLINE_LENGTH_FOR_TYPE = 22,
+    LOADLINE_BREADTHS = 23
 };
 
 /* What a ship's `kind` may be: its type, as regulation 27 has it. All but A are type B ships, whose
- * marks are worked alike, but for the line that they begin from and the least freeboard.
+ * marks are worked alike, but for the line that they begin from and the least freeboard. The version is that in which a ship
+ * is written whose houses all have full breadth; with set-in sides it is 3.
  *
- *   Type             The line                                                     Least S and T   Written in version
+ *   Type             The line                                                     Least S and T   Version
  *   A                table 28.1                                                   50 mm           1
  *   B                table 28.2                                                   50 mm           1
  *   B-60             B less 60 per cent of B - A, up to um; L above 100 m         50 mm           2
@@ -109,9 +114,9 @@ enum loadline_kind {
     LOADLINE_TYPE_B_PORTABLE_COVERS = 4
 };
 
-/* A record has 27 + 8n bytes for n houses, in either version. To take one from a file, read up to LOADLINE_MOST_BYTES + 1
+/* A record has 27 + 8n bytes for n houses, and 27 + 12n in version 3. To take one from a file, read up to LOADLINE_MOST_BYTES + 1
  * bytes: the one more tells a longer file, which is refused, from a record. */
-enum { LOADLINE_LEAST_BYTES = 27, LOADLINE_MOST_BYTES = 91, LOADLINE_MOST_HOUSES = 8 };
+enum { LOADLINE_LEAST_BYTES = 27, LOADLINE_MOST_BYTES = 123, LOADLINE_MOST_HOUSES = 8 };
 
 /* A house on the freeboard deck. Its ends are stations, in mm forward of the after perpendicular; abaft it they are
  * negative. A flag reads as 0 or 1; for writing, 0 is no and any other number is yes. */
@@ -121,6 +126,8 @@ typedef struct {
     int64_t aft;            /* aft end, mm, -20000 to below L */
     int64_t fore;           /* fore end, mm, above 0 and to L + 20000 */
     uint64_t height;        /* mm, 1 to 8191 */
+    uint64_t breadth;       /* of set-in sides: the house's breadth, mm, to 65535; 0 and 0 is full breadth */
+    uint64_t beam;          /* and the ship's, both at the middle of the house */
 } loadline_house;
 
 /* A ship. The numbers are those of refusal 7's fields. */
@@ -159,30 +166,31 @@ typedef struct {
 
 typedef struct {
     uint64_t refusal, place, overlap;
-    uint64_t bytes;                 /* the record's length, 27 + 8n */
+    uint64_t bytes;                 /* the record's length */
 } loadline_write_answer;
 
 /* In all calls the pointer is to `length` bytes; with length 0 it may be NULL. A record is never changed. */
 
 /* The six marks of a record. S is never below the value worked without rounding, and less than 1.1 mm above it.
- * Refuses 1 to 13, 18 and 22. */
+ * Refuses 1 to 13, 18, 22 and 23. */
 loadline_marks_answer loadline_marks(const uint8_t *record, size_t length);
 
 /* The shortest poop for which the record's ship would have marks with S at most `wish` mm: an enclosed house of `height` mm
  * from the after perpendicular, set before the others, in whole decimetres up to L. Every shorter one has been ruled out.
  * It asks by the ship's own type: with portable covers S is never below 150 mm, so that a wish of 50 to 149 has no length (16).
- * Refuses 1 to 11, 18 and 22, then 14 to 16. The record's own marks need not exist: 12 and 13 are no refusals here. */
+ * The poop has full breadth.
+ * Refuses 1 to 11, 18, 22 and 23, then 14 to 16. The record's own marks need not exist: 12 and 13 are no refusals here. */
 loadline_poop_answer loadline_shortest_poop(const uint8_t *record, size_t length, uint64_t height, uint64_t wish);
 
-/* The ship of a record of version 1 or 2. Writing it gives the same bytes back where the record is in the lowest version that
- * holds the ship, which is 1 for types A and B and 2 for the others; otherwise it gives a record of that version, which
- * reads as the same ship.
- * Refuses 1 to 11, 18 and 22. */
+/* The ship of a record of any version. Writing it gives the same bytes back where the record is in the lowest version that
+ * holds the ship: 3 for a ship of whose houses one has breadths, else 1 for types A and B and 2 for the others. Otherwise it
+ * gives a record of that version, which is no longer and reads as the same ship.
+ * Refuses 1 to 11, 18, 22 and 23. */
 loadline_read_answer loadline_read(const uint8_t *record, size_t length);
 
 /* Writes the ship's record at the buffer's start, in the lowest version that holds the ship. Reading it gives the ship back.
  * Places beyond n are ignored. An accepted write changes the first `bytes` bytes only, a refused one none. A number too big
- * for the record is refused as any other outside its range. Refuses 3, 4, 7 to 11, 18, 22 and 17; 17 comes last, so that a
+ * for the record is refused as any other outside its range. Refuses 3, 4, 7 to 11, 18, 22, 23 and 17; 17 comes last, so that a
  * short buffer hides no fault of the ship. */
 loadline_write_answer loadline_write(uint8_t *buffer, size_t length, loadline_ship ship);
 

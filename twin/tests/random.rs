@@ -1,11 +1,11 @@
-//! What is drawn of ships below L/15, and of the five types.
+//! What is drawn of ships below L/15, of the five types, and of houses that are set in.
 
 mod common;
 
 use common::ship;
 use twin::marks::{floor, marks, standard_height, steps};
 use twin::random::Random;
-use twin::record::{House, Kind, Ship};
+use twin::record::{any_set_in, check_houses, House, Kind, Ship};
 
 /// The house that covers 0.2 L to 0.8 L, with `mm` more or less at each end.
 fn amidships(ship: &Ship, mm: i64) -> Option<&House> {
@@ -61,6 +61,56 @@ fn share_of_low_ships() {
     let deep = ships.iter().filter(|ship| steps(ship).depth > 0).count();
     assert!((1_000..3_000).contains(&reduced), "{reduced}");
     assert!(deep > 3_000, "{deep}");
+}
+
+/// Breadths that pass and that do not, each at its border too.
+#[test]
+fn breadths() {
+    let mut random = Random::new(92);
+    let check = |(breadth, beam)| {
+        let house = House { aft: 1, fore: 2, height: 1, breadth, beam, ..House::default() };
+        check_houses(24_000, &[house]).map_err(|refusal| refusal.number)
+    };
+    let mut seen = [0; 7];
+    for _ in 0..20_000 {
+        let (good, bad) = (random.breadths(), random.bad_breadths());
+        assert_eq!((check(good), check(bad)), (Ok(()), Err(23)), "{good:?} {bad:?}");
+        assert!(good.1 > 0 && bad.0.max(bad.1) <= 65_535);
+        for (count, holds) in seen.iter_mut().zip([
+            23 * good.1 == 25 * good.0,
+            good.0 == good.1,
+            good.1 == 65_535,
+            bad.0 == 0,
+            bad.1 == 0,
+            bad.0 == bad.1 + 1,
+            bad.0 < bad.1 && check((bad.0 + 1, bad.1)).is_ok(),
+        ]) {
+            *count += i32::from(holds);
+        }
+    }
+    assert!(seen.iter().all(|&count| count >= 50), "{seen:?}");
+}
+
+/// Among ships of all sorts some have houses that are set in: all, several beside others, or one alone.
+#[test]
+fn share_of_set_in_houses() {
+    let mut random = Random::new(35);
+    let ships: Vec<_> = (0..9_000).map(|i| ship(&random.any_ship(i % 9))).collect();
+    let set_in = ships.iter().filter(|ship| any_set_in(&ship.houses)).count();
+    assert!((1_500..3_500).contains(&set_in), "{set_in}");
+    let counts = |ship: &Ship| {
+        let all = ship.houses.len();
+        (all, ship.houses.iter().filter(|house| !house.has_full_breadth()).count())
+    };
+    for sort in [
+        |all, some| all == some && all > 2,
+        |all, some| some > 1 && all > some,
+        |_, some| some == 1,
+    ] as [fn(usize, usize) -> bool; 3]
+    {
+        let seen = ships.iter().map(counts).filter(|&(all, some)| sort(all, some)).count();
+        assert!(seen >= 200, "{seen}");
+    }
 }
 
 /// Every type at the borders of its line, on both sides of Cb 0.68, and about both floors.

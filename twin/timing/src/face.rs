@@ -33,6 +33,8 @@ pub struct FlatHouse {
     pub aft: i64,
     pub fore: i64,
     pub height: u64,
+    pub breadth: u64,
+    pub beam: u64,
 }
 
 #[repr(C)]
@@ -158,6 +160,8 @@ impl From<House> for FlatHouse {
             aft: house.aft,
             fore: house.fore,
             height: house.height,
+            breadth: house.breadth,
+            beam: house.beam,
         }
     }
 }

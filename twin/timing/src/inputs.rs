@@ -2,7 +2,7 @@
 
 use twin::question;
 use twin::random::Random;
-use twin::record::{self, RawShip};
+use twin::record::{self, House, RawShip, Version};
 use twin::refusal::Refusal;
 
 use crate::face::FlatShip;
@@ -34,7 +34,8 @@ pub fn early_hits() -> Vec<Input> {
     found(SHIPS, || {
         let n = random.between(0, 7) as usize;
         let kind = random.kind();
-        let raw = random.ship_of(kind, n);
+        let mut raw = random.ship_of(kind, n);
+        random.set_in_at_times(&mut raw.houses[..n]);
         let ship = raw.check().ok()?;
         let wish = question::summer_with_poop(&ship, HEIGHT, random.between(1, 10)).ok()?;
         let input = Input::new(raw, wish as u64);
@@ -42,18 +43,41 @@ pub fn early_hits() -> Vec<Input> {
     })
 }
 
-/// The longest ships, whose wish no poop meets. Houses stand only in the last tenth of the length, so
-/// that there is hardly a length of poop that need not be worked.
+/// The longest ships, whose wish no poop meets; every other one has a forecastle that is set in. Houses
+/// stand only in the last tenth of the length, so that there is hardly a length of poop that need not be
+/// worked.
 pub fn full_searches() -> Vec<Input> {
     let mut random = Random::new(2003);
+    let mut set_in = false;
     found(SEARCHES, || {
         let n = random.between(0, 1) as usize;
-        let raw = random.ship(n);
-        let clear = raw.houses[..n].iter().all(|house| house.aft > 328_500);
+        let mut raw = random.ship(n);
+        if set_in {
+            put_forecastle(&mut raw);
+        }
+        let clear = raw.houses[..raw.n as usize].iter().all(|house| house.aft > 328_500);
         let input = Input::new(raw, LEAST_WISH);
         let nothing_fits = input.answer().is_err_and(|refusal| refusal.number == 16);
-        (input.raw.length == 365_000 && clear && nothing_fits).then_some(input)
+        let good = input.raw.length == 365_000 && clear && nothing_fits;
+        set_in ^= good;
+        good.then_some(input)
     })
+}
+
+/// One house, set in by 2.5 per cent on a side.
+fn put_forecastle(raw: &mut RawShip) {
+    let fore = raw.length as i64;
+    let aft = fore * 92 / 100;
+    raw.n = 1;
+    raw.houses[0] = House {
+        enclosed: true,
+        aft,
+        fore,
+        height: 2_300,
+        breadth: 38_000,
+        beam: 40_000,
+        ..House::default()
+    };
 }
 
 /// The first `count` that an endless search gives.
@@ -63,8 +87,9 @@ fn found(count: usize, search: impl FnMut() -> Option<Input>) -> Vec<Input> {
 
 impl Input {
     fn new(raw: RawShip, wish: u64) -> Input {
-        let mut record = vec![0; record::record_bytes(raw.n as usize)];
-        record::pack(&mut record, &raw);
+        let version = Version::lowest(&raw);
+        let mut record = vec![0; version.record_bytes(raw.n as usize)];
+        record::pack_as(version, &mut record, &raw);
         Input { flat: FlatShip::from(&raw), raw, record, height: HEIGHT, wish }
     }
 

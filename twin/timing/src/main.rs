@@ -81,6 +81,7 @@ fn agree(input: &Input) -> bool {
             == poop.unwrap_or(0)
         && Now::read(&input.record).ship.kind == input.raw.kind
         && Now::read(&input.record).ship.length == input.raw.length
+        && Now::read(&input.record).ship.houses[0].beam == input.raw.houses[0].beam
         && buffer[..written] == input.record
 }
 

@@ -87,24 +87,25 @@ mod tests {
         assert!(seen.iter().all(|&n| n >= 30), "{seen:?}");
     }
 
-    /// Every version and every type in each of the three, with what they come to.
+    /// Inputs with a record that has a head.
+    fn inputs(seed: u64) -> impl Iterator<Item = Input> {
+        let mut random = Random::new(seed);
+        (0..60_000)
+            .map(move |_| Input::draw(&mut random))
+            .filter(|input| input.record().len() >= record::HEADER_BYTES)
+    }
+
+    /// Every version, every type in each of the three, and every spare bit.
     #[test]
     fn heads() {
-        let mut random = Random::new(2);
         let mut versions = [0; 16];
         let mut types = [[0; 8]; 3];
         let mut spare = [[0; 6]; 3];
-        let mut seen = [0; 8];
-        for _ in 0..60_000 {
-            let input = Input::draw(&mut random);
+        for input in inputs(2) {
             let bytes = input.record();
-            if bytes.len() < record::HEADER_BYTES {
-                continue;
-            }
             let version = bytes[0] >> 4;
             versions[usize::from(version)] += 1;
-            let read = record::read(bytes);
-            let number = read.as_ref().map_or_else(|refusal| refusal.number, |_| 0);
+            let number = record::read(bytes).map_or_else(|refusal| refusal.number, |_| 0);
             let head = u16::from_be_bytes([bytes[0], bytes[1]]);
             if let Some(version) = Version::of(version.into()) {
                 let place = version as usize - 1;
@@ -114,6 +115,22 @@ mod tests {
                     *seen += u32::from(number == 6 && head >> bit & 1 == 1);
                 }
             }
+        }
+        assert!(versions.iter().all(|&n| n >= 100), "{versions:?}");
+        let kinds = types[0][..4].iter().chain(types[1..].as_flattened());
+        assert!(kinds.into_iter().all(|&n| n >= 80), "{types:?}");
+        let bits = spare[0].iter().chain(&spare[1][..5]).chain(&spare[2][..5]);
+        assert!(bits.into_iter().all(|&n| n >= 30), "{spare:?}");
+    }
+
+    /// What each version comes to.
+    #[test]
+    fn versions() {
+        let mut seen = [0; 8];
+        for input in inputs(3) {
+            let version = input.record[0] >> 4;
+            let read = record::read(input.record());
+            let number = read.as_ref().map_or_else(|refusal| refusal.number, |_| 0);
             let lowest = read.as_ref().is_ok_and(|ship| judge::in_lowest_version(&input, ship));
             let holds = [
                 number == 0 && version == 1,
@@ -127,11 +144,6 @@ mod tests {
             ];
             count(&mut seen, holds);
         }
-        assert!(versions.iter().all(|&n| n >= 100), "{versions:?}");
-        let kinds = types[0][..4].iter().chain(types[1..].as_flattened());
-        assert!(kinds.into_iter().all(|&n| n >= 100), "{types:?}");
-        let bits = spare[0].iter().chain(&spare[1][..5]).chain(&spare[2][..5]);
-        assert!(bits.into_iter().all(|&n| n >= 50), "{spare:?}");
         assert!(seen.iter().all(|&n| n >= 300), "{seen:?}");
     }
 

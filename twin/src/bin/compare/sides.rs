@@ -110,7 +110,7 @@ mod tests {
     use crate::input::Input;
     use twin::record::{self, RawShip};
 
-    fn count<const N: usize>(seen: &mut [u32; N], holds: [bool; N]) {
+    fn count<const N: usize>(seen: &mut [u32], holds: [bool; N]) {
         for (count, holds) in seen.iter_mut().zip(holds) {
             *count += u32::from(holds);
         }
@@ -120,55 +120,69 @@ mod tests {
         raw.check().map_or_else(|refusal| (refusal.number, refusal.place), |_| (0, 0))
     }
 
-    /// Breadths at the border from both sides, equal, one zero, of open houses and quarterdecks; 23 at
-    /// every place, and beside 9, 10, 11 and 18.
-    #[test]
-    fn breadths_at_their_borders() {
-        let mut random = Random::new(23);
-        let mut seen = [0; 8];
-        let mut refused = [0; 10];
-        let mut places = [0; MAX_HOUSES];
-        for i in 0..60_000 {
+    /// Ships with such houses, and what is said of each.
+    fn ships(seed: u64) -> impl Iterator<Item = (RawShip, (u8, usize))> {
+        let mut random = Random::new(seed);
+        (0..60_000).map(move |i| {
             let mut raw = random.any_ship(i % 9);
             put(&mut random, &mut raw);
-            let (number, place) = number(&raw);
-            let mut others = raw.clone();
-            others.houses.iter_mut().for_each(|house| (house.breadth, house.beam) = (0, 0));
-            let other = self::number(&others).0;
-            for house in counted(&mut raw).iter().filter(|_| number == 0) {
+            let said = number(&raw);
+            (raw, said)
+        })
+    }
+
+    /// Breadths that pass: at the border and next to it, equal, small and great, of open houses and
+    /// quarterdecks, and none.
+    #[test]
+    fn breadths_that_pass() {
+        let mut seen = [0; 8];
+        for (mut raw, _) in ships(23).filter(|(_, said)| said.0 == 0) {
+            for house in counted(&mut raw) {
                 let (breadth, beam) = (house.breadth, house.beam);
                 let holds = [
-                    beam > 0 && 23 * beam == 25 * breadth,
+                    23 * beam == 25 * breadth,
                     23 * beam < 25 * breadth && 23 * beam + 25 > 25 * breadth,
-                    beam > 0 && breadth == beam,
+                    breadth == beam,
                     beam == 65_535,
-                    beam > 0 && beam < 26,
-                    beam > 0 && !house.enclosed,
-                    beam > 0 && house.quarterdeck,
-                    beam == 0,
-                ];
-                count(&mut seen, holds);
-            }
-            if number == 23 {
-                let house = raw.houses[place];
-                let (breadth, beam) = (house.breadth, house.beam);
-                places[place] += 1;
-                let holds = [
-                    breadth == 0,
-                    beam == 0,
-                    beam > 0 && breadth == beam + 1,
-                    breadth < beam && 25 * (breadth + 1) >= 23 * beam,
+                    beam < 26,
                     !house.enclosed,
                     house.quarterdeck,
-                    other == 10,
-                    other == 11,
-                    other == 18,
-                    other == 0,
                 ];
-                count(&mut refused, holds);
+                count(&mut seen[..7], holds.map(|holds| holds && beam > 0));
+                seen[7] += u32::from(beam == 0);
             }
         }
-        assert!(seen.iter().chain(&refused).all(|&n| n >= 100), "{seen:?} {refused:?}");
+        assert!(seen.iter().all(|&n| n >= 100), "{seen:?}");
+    }
+
+    /// 23 by each of its clauses, at every place, of open houses and quarterdecks, and beside 10, 11, 18
+    /// and nothing.
+    #[test]
+    fn breadths_that_do_not() {
+        let mut seen = [0; 10];
+        let mut places = [0; MAX_HOUSES];
+        for (raw, (_, place)) in ships(24).filter(|(_, said)| said.0 == 23) {
+            let house = raw.houses[place];
+            let mut others = raw.clone();
+            others.houses.iter_mut().for_each(|house| (house.breadth, house.beam) = (0, 0));
+            let other = number(&others).0;
+            let (breadth, beam) = (house.breadth, house.beam);
+            places[place] += 1;
+            let holds = [
+                breadth == 0,
+                beam == 0,
+                beam > 0 && breadth == beam + 1,
+                breadth < beam && 25 * (breadth + 1) >= 23 * beam,
+                !house.enclosed,
+                house.quarterdeck,
+                other == 10,
+                other == 11,
+                other == 18,
+                other == 0,
+            ];
+            count(&mut seen, holds);
+        }
+        assert!(seen.iter().all(|&n| n >= 100), "{seen:?}");
         assert!(places.iter().all(|&n| n >= 100), "{places:?}");
     }
 

@@ -13,11 +13,11 @@ pub const HOUSE_SPARE: usize = 57;
 
 /// In the lowest version that holds the ship.
 pub fn packed(raw: &RawShip) -> Vec<u8> {
-    packed_as(Version::lowest(raw.kind), raw)
+    packed_as(Version::lowest(raw), raw)
 }
 
 pub fn packed_as(version: Version, raw: &RawShip) -> Vec<u8> {
-    let mut bytes = vec![0; record::record_bytes(raw.n as usize)];
+    let mut bytes = vec![0; version.record_bytes(raw.n as usize)];
     record::pack_as(version, &mut bytes, raw);
     bytes
 }

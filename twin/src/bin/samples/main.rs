@@ -3,16 +3,18 @@
 //!
 //! Each makes DIR/data/NAME for every case, DIR/args with the names in order, and DIR/stdout with
 //! one line for each. `samples slips` shows which cases of the marks a slip in a step would change,
-//! and how many cases of each call a slip in the check of the houses, or about types and versions,
-//! would.
+//! and how many cases of each call a slip in the check of the houses, about types and versions, or
+//! about set-in sides would.
 
 mod bytes;
+mod calls;
 mod heads;
 mod lists;
 mod marks;
 mod questions;
 mod records;
 mod ships;
+mod sides;
 mod slips;
 mod writes;
 
@@ -81,20 +83,27 @@ fn save(directory: &Path, samples: &[Sample]) -> io::Result<()> {
 
 /// Which cases tell each slip.
 fn slips() -> String {
-    let marks = marks::cases();
+    let (records, writes) = (records::cases(), writes::cases());
+    let (marks, questions) = (marks::cases(), questions::cases());
     let lists = lists::slips::shown(&[
-        ("records", &records::cases().lists),
-        ("writes", &writes::cases().lists),
+        ("records", &records.lists),
+        ("writes", &writes.lists),
         ("marks", &marks.lists),
-        ("questions", &questions::cases().lists),
+        ("questions", &questions.lists),
     ]);
-    let heads = heads::slips::shown(&[
-        ("records", &records::cases().heads),
-        ("writes", &writes::cases().heads),
+    let heads = calls::shown(&[
+        ("records", &records.heads),
+        ("writes", &writes.heads),
         ("marks", &marks.heads),
-        ("questions", &questions::cases().heads),
+        ("questions", &questions.heads),
     ]);
-    format!("{}\n{lists}\n{heads}", marks.slips())
+    let sides = calls::shown(&[
+        ("records", &records.sides),
+        ("writes", &writes.sides),
+        ("marks", &marks.sides),
+        ("questions", &questions.sides),
+    ]);
+    format!("{}\n{lists}\n{heads}\n{sides}", marks.slips())
 }
 
 fn main() -> ExitCode {

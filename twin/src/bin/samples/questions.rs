@@ -1,12 +1,14 @@
 //! Questions for the shortest poop: height and wish, then the record. The line is the poop's length
-//! in dm, or one of refusals 1 to 11, 18, 22, and 14 to 16.
+//! in dm, or one of refusals 1 to 11, 18, 22, 23, and 14 to 16.
 
 use crate::bytes::{over, packed, resized, COUNT, KIND, SPARE, VERSION};
 use crate::heads::{self, slips::Heads};
 use crate::lists::{self, slips::Lists};
 use crate::ships::{
-    bulk, decked, extremes, forecastle, house, k1, k2, open, plain, quarterdeck, with, KINDS, TYPES,
+    bulk, decked, extremes, forecastle, house, k1, k2, open, plain, quarterdeck, set_in, with,
+    KINDS, TYPES,
 };
+use crate::sides::{self, slips::Sides};
 use crate::{refused, slips, Sample};
 use twin::marks;
 use twin::question::{shortest_poop, summer_with_poop};
@@ -35,6 +37,7 @@ pub struct Questions {
     searched: Vec<(Ship, u64, u64, Result<i64, Refusal>)>,
     pub lists: Lists,
     pub heads: Heads,
+    pub sides: Sides,
 }
 
 impl Questions {
@@ -62,6 +65,7 @@ impl Questions {
             self.searched.push((ship, height, wish, answer));
         }
         self.heads.question(&record, height, wish, &line);
+        self.sides.question(&record, height, wish, &line);
         let mut data = height.to_be_bytes().to_vec();
         data.extend(wish.to_be_bytes());
         data.extend(record);
@@ -109,12 +113,15 @@ pub fn cases() -> Questions {
     types(&mut all);
     wishes_about_the_floor(&mut all);
     types_and_versions(&mut all);
+    set_in_houses(&mut all);
+    set_in_sides(&mut all);
     for slip in SLIPS {
         let (told, least) = (all.told_by(slip), if slip as usize >= LATER { 3 } else { 2 });
         assert!(told >= least, "too few cases tell {slip:?}: {told}");
     }
     all.lists.enough("questions");
     all.heads.enough("questions");
+    all.sides.enough("questions");
     all
 }
 
@@ -352,7 +359,7 @@ fn order(all: &mut Questions) {
     let record = packed(&k2());
     for (number, place, bytes) in [
         (1, 0, resized(record.clone(), 26)),
-        (2, 0, over(record.clone(), VERSION, 4, 3)),
+        (2, 0, over(record.clone(), VERSION, 4, 4)),
         (3, 0, over(record.clone(), KIND, 2, 2)),
         (4, 0, over(resized(packed(&extremes()), 99), COUNT, 4, 9)),
         (5, 0, resized(record.clone(), 36)),
@@ -450,16 +457,7 @@ fn wishes_about_the_floor(all: &mut Questions) {
 /// Records about types and versions, asked for what a poop of 5 m gives, and what comes after 22.
 fn types_and_versions(all: &mut Questions) {
     for case in heads::cases() {
-        let (expected, wish) = match (case.expected, record::read(&case.bytes)) {
-            (None, Ok(ship)) if ship.houses.len() < MAX_HOUSES => {
-                let raw = ship.raw();
-                let wish = mark(&raw, 2_000, 50).expect("marks with a poop of 5 m");
-                let met = mark(&raw, 2_000, 0).is_some_and(|mark| mark <= wish);
-                (if met { Poop(0) } else { Longer }, wish)
-            }
-            (None, _) => (Refused(15, 0), 60_000),
-            (Some(refusal), _) => (Exactly(refusal), 60_000),
-        };
+        let (expected, wish) = for_poop_of_5_m(case.expected, &case.bytes);
         all.bytes(&case.name, expected, 2_000, wish, case.bytes);
     }
     for (kind, length) in [(2, 100_000), (3, 90_000), (4, 200_001)] {
@@ -472,6 +470,70 @@ fn types_and_versions(all: &mut Questions) {
             _ => all.ship("22-before-16", expected, 2_000, 50, &raw),
         }
     }
+}
+
+/// What a record that may be refused is asked for: the mark that a poop of 5 m gives.
+fn for_poop_of_5_m(expected: crate::Expected, bytes: &[u8]) -> (Expected, u64) {
+    let no_room = |ship: &Ship| {
+        ship.houses.len() == MAX_HOUSES || ship.houses.first().is_some_and(|house| house.aft <= 0)
+    };
+    match (expected, record::read(bytes)) {
+        (Some(refusal), _) => (Exactly(refusal), 60_000),
+        (None, Ok(ship)) if !no_room(&ship) => {
+            let raw = ship.raw();
+            let wish = mark(&raw, 2_000, 50).expect("marks with a poop of 5 m");
+            let met = mark(&raw, 2_000, 0).is_some_and(|mark| mark <= wish);
+            (if met { Poop(0) } else { Longer }, wish)
+        }
+        (None, _) => (Refused(15, 0), 60_000),
+    }
+}
+
+/// The poop has full breadth, and the other houses keep their breadths.
+fn set_in_houses(all: &mut Questions) {
+    for (breadth, k) in [(9_500, 31), (9_200, 31), (10_000, 31)] {
+        let raw = sides::forecastle(breadth, 10_000);
+        let own = mark(&raw, 1_950, 0).expect("marks without a poop");
+        let wish = mark(&raw, 1_950, k).expect("marks with a poop of 3.1 m");
+        let name = format!("k2-set-in-{breadth}-of-10000");
+        all.ship(&format!("{name}-wish-{own}"), Poop(0), 1_950, own, &raw);
+        all.ship(&format!("{name}-wish-{}", own - 1), Longer, 1_950, own - 1, &raw);
+        all.ship(&format!("{name}-wish-{wish}"), Longer, 1_950, wish, &raw);
+        all.ship(&format!("{name}-wish-50"), Refused(16, 0), 1_950, 50, &raw);
+    }
+    for (kind, name) in (0..).zip(TYPES) {
+        let aft = set_in(house(40_000, 60_000, 2_300), 11_100, 12_000);
+        let fore = set_in(bulk().houses[0], 11_900, 12_000);
+        let raw = with(RawShip { kind, ..bulk() }, &[aft, fore]);
+        for k in [100, 400] {
+            let wish = mark(&raw, 2_300, k).expect("marks with a poop");
+            all.ship(&format!("{name}-set-in-wish-{wish}"), Longer, 2_300, wish, &raw);
+        }
+    }
+    // The forecastle is too short by its breadth, and the poop of all the length is not.
+    let raw = with(k1(), &[set_in(house(83_700, 90_000, 2_000), 9_999, 10_000)]);
+    all.ship("set-in-forecastle-too-short", Refused(16, 0), 1_950, 900, &raw);
+    let raw = with(k1(), &[set_in(open(house(50_000, 60_000, 2_000)), 9_500, 10_000)]);
+    all.ship("open-set-in-house-in-the-way", Refused(16, 0), 1_950, 900, &raw);
+}
+
+/// Ships and records about set-in sides, asked for what a poop of 5 m gives, and what comes after 23.
+fn set_in_sides(all: &mut Questions) {
+    for case in sides::ships() {
+        let (expected, wish) = for_poop_of_5_m(case.expected, &packed(&case.raw));
+        all.ship(&case.name, expected, 2_000, wish, &case.raw);
+    }
+    for case in sides::records() {
+        let (expected, wish) = for_poop_of_5_m(case.expected, &case.bytes);
+        all.bytes(&case.name, expected, 2_000, wish, case.bytes);
+    }
+    let [first, second, third] =
+        sides::BAD.map(|(_, breadth, beam)| sides::forecastle(breadth, beam));
+    all.ship("side-23-before-14-height", Refused(23, 0), 0, 1_000, &first);
+    all.ship("side-23-before-14-wish", Refused(23, 0), 1_950, 49, &second);
+    let stern = with(third.clone(), &[house(0, 9_000, 2_000), third.houses[0]]);
+    all.ship("side-23-before-15", Refused(23, 1), 1_950, 60_000, &stern);
+    all.ship("side-23-before-16", Refused(23, 0), 1_950, 50, &third);
 }
 
 /// Plausible slips in the search.
@@ -523,12 +585,18 @@ enum Slip {
     GreaterFloor,
     /// A wish below 150 on a ship with portable covers is 14.
     WishByFloor,
+    /// The poop has the breadths of the first house.
+    PoopSetIn,
+    /// With a poop every house has full breadth.
+    BreadthsLost,
+    /// Breadths stay at their places when the houses make room for the poop.
+    BreadthsLeft,
 }
 
 /// The first slip about types; one more case must tell each of these.
 const LATER: usize = Slip::AsksAsB as usize;
 
-const SLIPS: [Slip; 23] = [
+const SLIPS: [Slip; 26] = [
     Slip::StopsAtRise,
     Slip::Halves,
     Slip::SkipsZero,
@@ -552,6 +620,9 @@ const SLIPS: [Slip; 23] = [
     Slip::LowerFloor,
     Slip::GreaterFloor,
     Slip::WishByFloor,
+    Slip::PoopSetIn,
+    Slip::BreadthsLost,
+    Slip::BreadthsLeft,
 ];
 
 /// The slip in the marks that it comes to at this length.
@@ -577,6 +648,7 @@ fn mark_with(slip: Slip, ship: &Ship, height: u64, k: i64) -> Option<i64> {
     if k > 0 {
         let quarterdeck = slip == Slip::Quarterdeck;
         longer.houses = ship.houses.after(House { quarterdeck, ..house(0, 100 * k, height) });
+        put_breadths(slip, &ship.houses, &mut longer.houses);
     }
     record::check_houses(longer.length, &longer.houses).ok()?;
     longer.kind = match (slip, ship.kind) {
@@ -593,6 +665,20 @@ fn mark_with(slip: Slip, ship: &Ship, height: u64, k: i64) -> Option<i64> {
     }
     let refused = marks::marks(&longer).is_err() && slip != Slip::TakesRefused;
     (!refused).then(|| marks::steps(&longer).summer)
+}
+
+/// The breadths that the houses have with a poop under the slip.
+fn put_breadths(slip: Slip, before: &[House], houses: &mut [House]) {
+    let breadths = |place: usize| match slip {
+        Slip::PoopSetIn if place == 0 => before.first().copied(),
+        Slip::BreadthsLeft => before.get(place).copied(),
+        Slip::BreadthsLost => None,
+        _ => Some(houses[place]),
+    };
+    let all: Vec<House> = (0..houses.len()).map(|i| breadths(i).unwrap_or_default()).collect();
+    for (house, of) in houses.iter_mut().zip(all) {
+        (house.breadth, house.beam) = (of.breadth, of.beam);
+    }
 }
 
 /// Refusals 12, 13, 15, 16 and the search, with a slip.

@@ -4,6 +4,7 @@ use crate::bytes::{over, packed, packed_as, resized, COUNT, HOUSE_SPARE, KIND, S
 use crate::heads::{self, slips::Heads};
 use crate::lists::{self, slips::Lists};
 use crate::ships::{extremes, house, k1, k2, three_houses, with};
+use crate::sides::{self, slips::Sides};
 use crate::{overlap, refused, Expected, Sample};
 use twin::random::Random;
 use twin::record::{self, House, RawShip, Version};
@@ -14,14 +15,16 @@ pub struct Records {
     pub samples: Vec<Sample>,
     pub lists: Lists,
     pub heads: Heads,
+    pub sides: Sides,
 }
 
 impl Records {
     fn bytes(&mut self, name: &str, expected: Expected, bytes: Vec<u8>) {
         let line = report::record_line(&bytes);
         self.heads.read(&bytes, &line);
-        let lowest = bytes.first().is_some_and(|first| first >> 4 == 1)
-            || record::read(&bytes).is_ok_and(|ship| ship.kind as u64 > 1);
+        self.sides.read(&bytes, &line);
+        let lowest = record::read(&bytes)
+            .is_ok_and(|ship| bytes[0] >> 4 == Version::lowest(&ship.raw()) as u8);
         assert!(expected.is_some() || line.ends_with(" back") == lowest, "{name}: {line}");
         self.samples.push(Sample::new(name, bytes, line, expected));
     }
@@ -48,8 +51,10 @@ pub fn cases() -> Records {
     priorities(&mut all);
     lists(&mut all);
     types_and_versions(&mut all);
+    set_in_sides(&mut all);
     all.lists.enough("records");
     all.heads.enough("records");
+    all.sides.enough("records");
     all
 }
 
@@ -81,8 +86,8 @@ fn header(all: &mut Records) {
     all.bytes("nine-houses-99-bytes", refused(4, 0), nine);
     all.bytes("nine-houses-91-bytes", refused(4, 0), over(eight, COUNT, 4, 9));
     all.bytes("fifteen-houses-27-bytes", refused(4, 0), over(packed(&k1()), COUNT, 4, 15));
-    for (version, number) in [(0, 2), (2, 5), (15, 2)] {
-        // By the head of version 2 it has two houses.
+    for (version, number) in [(0, 2), (2, 5), (3, 5), (4, 2), (15, 2)] {
+        // By the head of versions 2 and 3 it has two houses.
         let bytes = over(packed(&k2()), VERSION, 4, version);
         all.bytes(&format!("version-{version}"), refused(number, 0), bytes);
     }
@@ -131,7 +136,7 @@ fn spare_bits(all: &mut Records) {
         all.bytes(&format!("header-spare-bit-{bit}"), refused(6, 0), bytes);
     }
     for (place, name, bit) in [(0, "first", 0), (1, "middle", 3), (2, "last", 6)] {
-        let at = 8 * record::record_bytes(place) + HOUSE_SPARE + bit;
+        let at = 8 * Version::One.record_bytes(place) + HOUSE_SPARE + bit;
         let bytes = over(packed(&three_houses()), at, 1, 1);
         all.bytes(&format!("{name}-house-spare-bit-{bit}"), refused(6, 0), bytes);
     }
@@ -228,6 +233,24 @@ fn types_and_versions(all: &mut Records) {
     }
     let bytes = packed_as(Version::Two, &extremes());
     all.bytes("version-2-type-0-extreme-values", None, bytes);
+}
+
+/// Ships and records about set-in sides, and random ships of every number of houses that come back.
+fn set_in_sides(all: &mut Records) {
+    for case in sides::ships() {
+        all.ship(&case.name, case.expected, &case.raw);
+    }
+    for case in sides::records() {
+        all.bytes(&case.name, case.expected, case.bytes);
+    }
+    let mut random = Random::new(2005);
+    for n in 1..=8 {
+        let kind = n as u64 % 5;
+        let mut raw = random.ship_of(kind, n);
+        random.set_in(&mut raw.houses[..n]);
+        (raw.houses[0].breadth, raw.houses[0].beam) = random.breadths();
+        all.ship(&format!("side-random-type-{kind}-houses-{n}"), None, &raw);
+    }
 }
 
 /// Lists about refusals 11 and 18, and what comes before either.

@@ -3,7 +3,7 @@
 use twin::record::{House, RawShip};
 
 pub fn house(aft: i64, fore: i64, height: u64) -> House {
-    House { enclosed: true, quarterdeck: false, aft, fore, height }
+    House { enclosed: true, aft, fore, height, ..House::default() }
 }
 
 pub fn with(mut raw: RawShip, houses: &[House]) -> RawShip {
@@ -90,6 +90,11 @@ pub const TYPES: [&str; 5] = ["a", "b", "b60", "b100", "covers"];
 /// Not enclosed.
 pub fn open(house: House) -> House {
     House { enclosed: false, ..house }
+}
+
+/// With its own breadth and the ship's.
+pub fn set_in(house: House, breadth: u64, beam: u64) -> House {
+    House { breadth, beam, ..house }
 }
 
 pub fn quarterdeck(aft: i64, fore: i64, height: u64) -> House {

@@ -214,6 +214,31 @@ slips! {
     CoversFloorFresh 40 "F and TF with portable covers at least 150",
     FloorEvery 40 "S and T of every type at least 150",
     FloorEveryB 40 "S and T of every kind of B at least 150",
+    SidesNever 35 "breadths left out",
+    SidesTurned 35 "ratio of breadths turned over",
+    SidesOne 35 "set in on one side alone",
+    SidesLesser 35 "the lesser of both ratios",
+    SidesPerCent 35 "ratio of breadths in whole per cent",
+    SidesTenThousandths 35 "ratio of breadths in 1/10000, down",
+    SidesOfFirst 35 "first house's breadths for every house",
+    SidesNotDeck 35 "quarterdeck's breadths left out",
+    SidesDeckLimit 35 "quarterdeck limited to 0.6 L after the ratio of breadths",
+    SidesUp 35 "set-in house up",
+    SidesMm 35 "set-in house down to mm",
+    SidesTwice 35 "set-in house down before the ratio of breadths, too",
+    SidesTogether 35 "set-in house added to those of full breadth, then rounded",
+    SidesSum 35 "set-in houses added, then rounded",
+    SidesEqualFull 35 "equal breadths as full breadth",
+    SidesEach 35 "every house down by itself where one is set in",
+    SidesCovered 34 "ratio of breadths in S too",
+    SidesShort 29 "E without the ratio of breadths",
+    SidesDeduct 37 "E without the ratio of breadths",
+    SidesTest 37 "0.07 L without the ratio of breadths",
+    SidesCover 38 "cover by the ratio of breadths",
+    SidesReduction 31 "reduction by the ratio of breadths",
+    SidesNoReduction 31 "no reduction for a set-in house",
+    SidesBowLength 39 "0.07 L by the ratio of breadths",
+    SidesBowHeight 39 "forecastle's height by the ratio of breadths",
 }
 
 fn down(number: i128, divisor: i128) -> i128 {
@@ -224,11 +249,17 @@ fn up(number: i128, divisor: i128) -> i128 {
     -down(-number, divisor)
 }
 
-/// Sum of fractions. Their divisors are but two: one that is in the sum already is not put in again.
+/// Sum of fractions, over the least divisor of both: it fits for four ship's breadths, all unlike.
 fn added((a, b): (i128, i128), (c, d): (i128, i128)) -> (i128, i128) {
-    match b % d {
-        0 => (a + c * (b / d), b),
-        _ => (a * d + c * b, b * d),
+    let common = divisor(b, d);
+    (a * (d / common) + c * (b / common), b / common * d)
+}
+
+/// The greatest that divides both.
+fn divisor(a: i128, b: i128) -> i128 {
+    match b {
+        0 => a,
+        _ => divisor(b, a % b),
     }
 }
 
@@ -253,11 +284,21 @@ pub fn worked(ship: &Ship, slip: Option<Slip>) -> Result<Marks, Refusal> {
     Working { ship, slip, l: ship.length.into() }.marks()
 }
 
+/// Whether the slip changes the freeboard before the bow height, be it by a um.
+pub fn changes(ship: &Ship, slip: Slip) -> bool {
+    let corrected = |slip| Working { ship, slip, l: ship.length.into() }.corrected();
+    corrected(Some(slip)) != corrected(None)
+}
+
 /// Whether the slip changes the ship's marks.
 pub fn tells(ship: &Ship, slip: Slip) -> bool {
     worked(ship, Some(slip)) != worked(ship, None)
 }
 
+/// From here on each sort of houses is one house.
+const ALONE: usize = 2;
+
+#[derive(Clone, Copy)]
 struct Working<'a> {
     ship: &'a Ship,
     slip: Option<Slip>,
@@ -398,6 +439,7 @@ impl Working<'_> {
                 l if self.has(Slip::CoveredDeckLimited) && house.quarterdeck => {
                     l.min(3 * self.l / 5)
                 }
+                l if self.has(Slip::SidesCovered) => self.by_breadths(l, house),
                 l => l,
             }
         };
@@ -420,6 +462,31 @@ impl Working<'_> {
         (mm.into(), parts.into())
     }
 
+    /// 35(2): the house's breadth over the ship's, 1 for full breadth.
+    fn breadths(&self, house: &House) -> (i128, i128) {
+        let house = match self.has(Slip::SidesOfFirst) {
+            true => &self.ship.houses[0],
+            false => house,
+        };
+        let (breadth, beam) = (i128::from(house.breadth), i128::from(house.beam));
+        match self.slip {
+            _ if house.has_full_breadth() => (1, 1),
+            Some(Slip::SidesNever) => (1, 1),
+            Some(Slip::SidesNotDeck) if house.quarterdeck => (1, 1),
+            Some(Slip::SidesTurned) => (beam, breadth),
+            Some(Slip::SidesOne) => (beam + breadth, 2 * beam),
+            Some(Slip::SidesPerCent) => (100 * breadth / beam, 100),
+            Some(Slip::SidesTenThousandths) => (10_000 * breadth / beam, 10_000),
+            _ => (breadth, beam),
+        }
+    }
+
+    /// The number times the ratio of breadths, down.
+    fn by_breadths(&self, number: i128, house: &House) -> i128 {
+        let (breadth, beam) = self.breadths(house);
+        down(number * breadth, beam)
+    }
+
     /// 35: effective length as a fraction of um.
     fn effective(&self, house: &House) -> (i128, i128) {
         self.effective_by(house, house.quarterdeck)
@@ -427,6 +494,30 @@ impl Working<'_> {
 
     /// The same with the standard height of a quarterdeck, or of another house.
     fn effective_by(&self, house: &House, quarterdeck: bool) -> (i128, i128) {
+        let (um, standard) = self.by_height(house, quarterdeck);
+        let (breadth, beam) = self.breadths(house);
+        let most = 600 * self.l;
+        match self.slip {
+            // By the lower ratio alone.
+            Some(Slip::SidesLesser)
+                if um * beam <= 1000 * self.within(house) * standard * breadth =>
+            {
+                (um, standard)
+            }
+            Some(Slip::SidesLesser) => (1000 * self.within(house) * breadth, beam),
+            Some(Slip::SidesTwice) if beam > 1 => (down(um, standard) * breadth, beam),
+            // The limit is left out of the length by height.
+            Some(Slip::SidesDeckLimit) if house.quarterdeck => {
+                let whole = 1000 * self.within(house);
+                let limited = (whole * breadth).min(most * beam);
+                (um * limited, standard * beam * whole.min(most))
+            }
+            _ => (um * breadth, standard * beam),
+        }
+    }
+
+    /// Effective length without the ratio of breadths.
+    fn by_height(&self, house: &House, quarterdeck: bool) -> (i128, i128) {
         let (whole, most) = (1000 * self.within(house), 600 * self.l);
         let (standard, parts) = self.standard(quarterdeck);
         let height = match i128::from(house.height) * parts {
@@ -451,32 +542,56 @@ impl Working<'_> {
     fn effective_sum(&self) -> i128 {
         let decked = self.enclosed().any(|house| house.quarterdeck);
         // Houses of one sort are added, then rounded.
-        let mut sorts = [(0, 1); MAX_HOUSES];
+        let mut sorts = [(0, 1); ALONE + MAX_HOUSES];
         for (i, house) in self.enclosed().enumerate() {
-            let sort = match self.slip {
-                Some(Slip::EffectiveEach) => i,
-                Some(Slip::EffectiveTogether) => 0,
-                Some(Slip::EffectiveFirst) => usize::from(i > 0),
-                _ => usize::from(!house.quarterdeck),
-            };
+            let sort = self.sort(i, house);
             let as_deck = house.quarterdeck || decked && self.has(Slip::HouseAsDeck);
             sorts[sort] = added(sorts[sort], self.effective_by(house, as_deck));
         }
         let rounded = |(sort, (um, parts)): (usize, (i128, i128))| match self.slip {
             Some(Slip::EffectiveMm) => 1000 * down(um, 1000 * parts),
+            Some(Slip::SidesMm) if sort >= ALONE => 1000 * down(um, 1000 * parts),
             Some(Slip::DeckUp) if sort == 0 => up(um, parts),
             Some(Slip::EffectiveUp) if sort == 1 => up(um, parts),
+            Some(Slip::SidesUp) if sort >= ALONE => up(um, parts),
             _ => down(um, parts),
         };
         sorts.into_iter().enumerate().map(rounded).sum()
+    }
+
+    /// With which others the i-th enclosed house is added: a quarterdeck, ordinary houses, or none.
+    fn sort(&self, i: usize, house: &House) -> usize {
+        let equal = house.breadth == house.beam;
+        let set_in = match self.slip {
+            Some(Slip::SidesTogether) => false,
+            Some(Slip::SidesEqualFull) => !equal,
+            Some(Slip::SidesEach) => self.enclosed().any(|house| !house.has_full_breadth()),
+            _ => !house.has_full_breadth(),
+        };
+        match self.slip {
+            Some(Slip::SidesSum) if set_in => ALONE,
+            Some(Slip::EffectiveEach) => ALONE + i,
+            _ if set_in => ALONE + i,
+            Some(Slip::EffectiveTogether) => 0,
+            Some(Slip::EffectiveFirst) => usize::from(i > 0),
+            _ => usize::from(!house.quarterdeck),
+        }
+    }
+
+    /// E with no ratio of breadths, um.
+    fn effective_sum_by_height(&self) -> i128 {
+        Working { slip: Some(Slip::SidesNever), ..*self }.effective_sum()
     }
 
     fn corrected(&self) -> i128 {
         let (covered, effective) = (self.covered(), self.effective_sum());
         let (depth, reduction) = (self.depth(), self.reduction());
         let (table, later) = self.table();
-        let short =
-            self.short_b(if self.has(Slip::ShortCovered) { 1000 * covered } else { effective });
+        let short = self.short_b(match self.slip {
+            Some(Slip::ShortCovered) => 1000 * covered,
+            Some(Slip::SidesShort) => self.effective_sum_by_height(),
+            _ => effective,
+        });
         let added = match self.slip {
             Some(Slip::FullnessTable) => self.fullness(table) + short + depth,
             Some(Slip::FullnessDepth) => self.fullness(table + short + depth),
@@ -489,8 +604,11 @@ impl Working<'_> {
             Some(Slip::ReductionFloor) => (added - reduction).max(0),
             _ => added - reduction,
         };
-        let deducted =
-            self.deduction(if self.has(Slip::DeductCovered) { 1000 * covered } else { effective });
+        let deducted = self.deduction(match self.slip {
+            Some(Slip::DeductCovered) => 1000 * covered,
+            Some(Slip::SidesDeduct) => self.effective_sum_by_height(),
+            _ => effective,
+        });
         let freeboard = match self.has(Slip::SheerFloor) {
             true => (reduced - deducted).max(0),
             false => reduced - deducted,
@@ -672,7 +790,12 @@ impl Working<'_> {
             height if self.has(Slip::ReductionHigh) => height,
             height => height.min(standard),
         };
-        Some((height, standard))
+        match self.breadths(&house) {
+            (breadth, beam) if self.has(Slip::SidesReduction) => {
+                Some((height * breadth, standard * beam))
+            }
+            _ => Some((height, standard)),
+        }
     }
 
     /// The house from 0.2 L to 0.8 L.
@@ -685,6 +808,7 @@ impl Working<'_> {
             Some(Slip::ReductionJoined) => join(&mut houses),
             Some(Slip::ReductionFirst) => houses.truncate(1),
             Some(Slip::ReductionNoDeck) => houses.retain(|house| !house.quarterdeck),
+            Some(Slip::SidesNoReduction) => houses.retain(House::has_full_breadth),
             _ => {}
         }
         // With either slip the longest house has the height that counts.
@@ -717,18 +841,6 @@ impl Working<'_> {
     /// 37
     fn deduction(&self, effective: i128) -> i128 {
         let l = self.l;
-        let long_enough = self.forecastle().is_some_and(|house| {
-            let (um, parts) = self.effective(house);
-            match self.slip {
-                Some(Slip::DeductPlain) => 1000 * self.within(house) >= 70 * l,
-                Some(Slip::DeductMmNearest) => {
-                    down(um + 500 * parts, 1000 * parts) * 1000 >= 70 * l
-                }
-                Some(Slip::DeductMmDown) => down(um, 1000 * parts) * 1000 >= 70 * l,
-                Some(Slip::DeductStrict) => um > 70 * l * parts,
-                _ => um >= 70 * l * parts,
-            }
-        });
         let asked = match (self.slip, self.ship.kind) {
             (Some(Slip::DeductAlways), _)
             | (Some(Slip::DeductB60Always), Kind::B60)
@@ -738,8 +850,7 @@ impl Working<'_> {
             (Some(Slip::DeductForecastleA), _) => true,
             (_, kind) => kind != Kind::A,
         };
-        let gets = !asked || long_enough;
-        if !gets {
+        if asked && !self.forecastle().is_some_and(|house| self.is_long(house)) {
             return 0;
         }
         let point = |(x0, y0): (i128, i128), (x1, y1): (i128, i128)| {
@@ -764,6 +875,22 @@ impl Working<'_> {
         let rise = 1000 * (percentages[below + 1] - percentages[below]) * beyond;
         let share = 1000 * percentages[below] + self.down(rise, tenth, Slip::DeductShareUp);
         self.down(full * share, 1_000_000, Slip::DeductUp)
+    }
+
+    /// 37(3): the forecastle has 0.07 L.
+    fn is_long(&self, house: &House) -> bool {
+        let (um, parts) = match self.slip {
+            Some(Slip::SidesTest) => self.by_height(house, house.quarterdeck),
+            _ => self.effective(house),
+        };
+        let least = 70 * self.l;
+        match self.slip {
+            Some(Slip::DeductPlain) => 1000 * self.within(house) >= least,
+            Some(Slip::DeductMmNearest) => down(um + 500 * parts, 1000 * parts) * 1000 >= least,
+            Some(Slip::DeductMmDown) => down(um, 1000 * parts) * 1000 >= least,
+            Some(Slip::DeductStrict) => um > least * parts,
+            _ => um >= least * parts,
+        }
     }
 
     /// 38(8) to (11): the mean excess, um.
@@ -838,7 +965,11 @@ impl Working<'_> {
             };
             let (standard, parts) = self.standard(house.quarterdeck);
             let height = (i128::from(house.height) * parts).min(standard);
-            Some(if self.has(Slip::CoverLow) { reach * height / standard } else { reach })
+            Some(match self.slip {
+                Some(Slip::CoverLow) => reach * height / standard,
+                Some(Slip::SidesCover) => self.by_breadths(reach, house),
+                _ => reach,
+            })
         });
         let reach = match self.has(Slip::CoverOne) {
             true => reaches.max().unwrap_or(0),
@@ -926,6 +1057,7 @@ impl Working<'_> {
                 um >= 70 * l * parts
             }
             Some(Slip::BowStrict) => length > 70 * l,
+            Some(Slip::SidesBowLength) => self.by_breadths(length, house) >= 70 * l,
             _ => length >= 70 * l,
         };
         let height = i128::from(house.height);
@@ -934,6 +1066,7 @@ impl Working<'_> {
             _ if !long_enough => 0,
             Some(Slip::BowHeightLimited) => height.min(standard / parts),
             Some(Slip::BowHalfHeight) if 2 * height * parts < standard => 0,
+            Some(Slip::SidesBowHeight) => self.by_breadths(height, house),
             _ => height,
         }
     }

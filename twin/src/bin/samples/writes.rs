@@ -2,10 +2,11 @@
 
 use crate::heads::{self, slips::Heads};
 use crate::lists::{self, slips::Lists};
-use crate::ships::{bulk, extremes, house, k1, k2, three_houses, with};
+use crate::ships::{bulk, extremes, house, k1, k2, set_in, three_houses, with};
+use crate::sides::{self, slips::Sides};
 use crate::{overlap, refused, Expected, Sample};
 use twin::random::Random;
-use twin::record::{self, House, RawShip};
+use twin::record::{House, RawShip, Version};
 use twin::report::Trial;
 
 #[derive(Default)]
@@ -13,6 +14,7 @@ pub struct Writes {
     pub samples: Vec<Sample>,
     pub lists: Lists,
     pub heads: Heads,
+    pub sides: Sides,
 }
 
 impl Writes {
@@ -22,9 +24,11 @@ impl Writes {
         let again = Trial::from_bytes(&data).map(|read| read.line());
         let line = trial.line();
         assert_eq!(again, Some(line.clone()), "{name} does not come back");
-        let short = (buffer as usize) < record::record_bytes(ship.n.min(8) as usize);
+        let length = Version::lowest(ship).record_bytes(ship.n.min(8) as usize);
+        let short = (buffer as usize) < length;
         self.lists.add(ship, refused(17, 0).filter(|_| short));
         self.heads.write(&trial, &line);
+        self.sides.write(&trial, &line);
         self.samples.push(Sample::new(name, data, line, expected));
     }
 
@@ -50,8 +54,12 @@ pub fn cases() -> Writes {
     lists(&mut all);
     types(&mut all);
     kind_lengths(&mut all);
+    set_in_sides(&mut all);
+    wide_breadths(&mut all);
+    breadths_beyond_count(&mut all);
     all.lists.enough("writes");
     all.heads.enough("writes");
+    all.sides.enough("writes");
     all
 }
 
@@ -165,6 +173,8 @@ fn beyond_count(all: &mut Writes) {
         aft: i64::MAX,
         fore: i64::MIN,
         height: u64::MAX,
+        breadth: u64::MAX,
+        beam: 1,
     };
     for n in [0, 1, 7] {
         let mut raw = extremes();
@@ -269,6 +279,83 @@ fn kind_lengths(all: &mut Writes) {
     }
     let raw = RawShip { n: 9, ..heads::of_length(2, 90_000) };
     all.into(40, "4-before-22", refused(4, 0), &raw);
+}
+
+/// Ships about set-in sides, and what comes after 23; the buffer is that of version 3.
+fn set_in_sides(all: &mut Writes) {
+    for case in sides::ships() {
+        all.into(124, &case.name, case.expected, &case.raw);
+    }
+    let one = sides::forecastle(9_500, 10_000);
+    for (buffer, expected) in [(27, true), (35, true), (38, true), (39, false), (40, false)] {
+        let name = format!("side-one-house-in-{buffer}-bytes");
+        all.into(buffer, &name, refused(17, 0).filter(|_| expected), &one);
+    }
+    let eight = with(k1(), &[set_in(k2().houses[0], 1, 1); 8]);
+    let mut random = Random::new(2005);
+    for n in [3, 8] {
+        let mut raw = random.ship_of(n as u64 % 5, n);
+        raw.houses[..n].iter_mut().for_each(|h| (h.breadth, h.beam) = random.breadths());
+        for (buffer, short) in [(27 + 8 * n, true), (26 + 12 * n, true), (27 + 12 * n, false)] {
+            let name = format!("side-random-houses-{n}-in-{buffer}-bytes");
+            all.into(buffer as u64, &name, refused(17, 0).filter(|_| short), &raw);
+        }
+    }
+    all.into(0, "side-11-before-17", overlap(1, 10_000), &eight);
+    for ((name, breadth, beam), buffer) in sides::BAD.into_iter().zip([0, 35, 38]) {
+        let raw = sides::forecastle(breadth, beam);
+        let name = format!("side-23-{name}-before-17-in-{buffer}-bytes");
+        all.into(buffer, &name, refused(23, 0), &raw);
+    }
+}
+
+/// Breadths beyond 16 bits, though their low bits or products would do.
+fn wide_breadths(all: &mut Writes) {
+    // 23 times this is 17 above 2^64.
+    let wraps = u64::MAX / 23 + 1;
+    for (name, breadth, beam) in [
+        ("house-low-bits-good", (1 << 16) + 9_500, 10_000),
+        ("ship-low-bits-good", 9_500, (1 << 16) + 10_000),
+        ("both-low-bits-good", (1 << 16) + 9_500, (1 << 16) + 10_000),
+        ("both-high-bits", (1 << 32) + 9_500, (1 << 32) + 10_000),
+        ("both-highest-bit", (1 << 63) + 9_500, (1 << 63) + 10_000),
+        ("both-2-to-16", 1 << 16, 1 << 16),
+        ("65535-of-65536", 65_535, 65_536),
+        ("75000-of-80000", 75_000, 80_000),
+        ("both-greatest", u64::MAX, u64::MAX),
+        ("house-greatest", u64::MAX, 10_000),
+        ("ship-greatest", 9_500, u64::MAX),
+        ("one-of-a-product-that-wraps", 1, wraps),
+        ("16-bits-of-a-product-that-wraps", 65_535, 2 * wraps),
+        ("both-of-a-product-that-wraps", wraps, wraps),
+        ("zero-of-2-to-16", 0, 1 << 16),
+        ("2-to-16-of-zero", 1 << 16, 0),
+    ] {
+        let raw = sides::forecastle(breadth, beam);
+        all.into(64, &format!("side-wide-{name}"), refused(23, 0), &raw);
+    }
+    let second = [k2().houses[0], k2().houses[0]];
+    let houses =
+        [House { aft: 10_000, fore: 20_000, ..second[0] }, set_in(second[1], 1 << 40, 1 << 40)];
+    all.into(64, "side-wide-second-house", refused(23, 1), &with(k1(), &houses));
+}
+
+/// Breadths beyond n are ignored, whatever they are.
+fn breadths_beyond_count(all: &mut Writes) {
+    for (n, name, breadth, beam) in [
+        (0, "sound", 9_500, 10_000),
+        (1, "sound", 10_000, 10_000),
+        (2, "sound", 60_293, 65_535),
+        (0, "bad", 9_199, 10_000),
+        (1, "bad", 0, 1),
+        (2, "wide", u64::MAX, u64::MAX),
+    ] {
+        let houses = [house(10_000, 20_000, 1_900), k2().houses[0]];
+        let mut raw = with(k1(), &houses[2 - n..]);
+        raw.houses[n..].fill(set_in(house(1, 2, 1), breadth, beam));
+        let name = format!("side-{name}-breadths-beyond-{n}");
+        all.into(27 + 8 * n as u64, &name, None, &raw);
+    }
 }
 
 /// Lists about refusals 11 and 18, and what comes before and after either.

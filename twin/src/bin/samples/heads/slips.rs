@@ -2,20 +2,18 @@
 //! chooses. A case is answered once more below, with at most one slip; it tells the slip if its line
 //! changes.
 
+use crate::bytes::packed_as;
+use crate::calls::{self, Call, Calls, Taken};
 use crate::slips::slips;
 use twin::bits;
-use twin::marks;
-use twin::question;
 use twin::record::{self, Kind, RawShip, Ship, Version, MAX_HOUSES};
 use twin::refusal::Refusal;
-use twin::report::{self, Trial};
 
 slips! {
     // In reading.
     FirstOnly 2 "version 2 refused",
     SecondOnly 2 "version 1 refused",
     ZeroRead 2 "version 0 read as version 1",
-    ThirdRead 2 "version 3 read as version 2",
     VersionLate 2 "judged after 3 and 4",
     TypesInFirst 3 "types 2 and 3 read from version 1",
     PlainNotInSecond 3 "types 0 and 1 refused in version 2",
@@ -58,127 +56,11 @@ slips! {
     StatedLowBits 3 "the low three bits of a type judged",
 }
 
-/// Cases that each slip must change in every call that it is in, at least.
-const LEAST: usize = 3;
-
-/// What a call is given.
-enum Call {
-    Read(Vec<u8>),
-    Marks(Vec<u8>),
-    /// Height and wish.
-    Question(Vec<u8>, u64, u64),
-    Write(Box<Trial>),
-}
-
 /// The cases of one call.
+pub type Heads = Calls<Working>;
+
 #[derive(Default)]
-pub struct Heads(Vec<Call>);
-
-impl Heads {
-    pub fn read(&mut self, bytes: &[u8], line: &str) {
-        self.add(Call::Read(bytes.to_vec()), line);
-    }
-
-    pub fn marks(&mut self, bytes: &[u8], line: &str) {
-        self.add(Call::Marks(bytes.to_vec()), line);
-    }
-
-    pub fn question(&mut self, bytes: &[u8], height: u64, wish: u64, line: &str) {
-        self.add(Call::Question(bytes.to_vec(), height, wish), line);
-    }
-
-    pub fn write(&mut self, trial: &Trial, line: &str) {
-        self.add(Call::Write(Box::new(trial.clone())), line);
-    }
-
-    fn add(&mut self, call: Call, line: &str) {
-        assert_eq!(answer(&call, None), line, "not alike without a slip");
-        self.0.push(call);
-    }
-
-    fn told_by(&self, slip: Slip) -> usize {
-        self.0.iter().filter(|call| tells(call, slip)).count()
-    }
-
-    /// Stops if few cases tell a slip.
-    pub fn enough(&self, call: &str) {
-        for &(slip, _, what) in SLIPS {
-            let concerned = self.0.iter().any(|call| concerns(slip, call));
-            assert!(
-                !concerned || self.told_by(slip) >= LEAST,
-                "{call}: too few cases tell: {what}"
-            );
-        }
-    }
-}
-
-/// For each slip, how many cases of each call it changes.
-pub fn shown(calls: &[(&str, &Heads)]) -> String {
-    let line = |&(slip, refusal, what): &(Slip, u8, &str)| {
-        let told = calls.iter().map(|(call, heads)| format!("{call} {}", heads.told_by(slip)));
-        let told = told.collect::<Vec<_>>().join(", ");
-        match refusal {
-            0 => format!("writer {what}: {told}"),
-            _ => format!("refusal {refusal} {what}: {told}"),
-        }
-    };
-    SLIPS.iter().map(line).collect::<Vec<_>>().join("\n")
-}
-
-/// Whether the slip can be in this call. Reading judges nothing after 22 but what is in the record.
-fn concerns(slip: Slip, call: &Call) -> bool {
-    let place = slip as usize;
-    match call {
-        Call::Read(_) if slip == Slip::Last => false,
-        Call::Read(_) => place <= Slip::WritesReducedAsA as usize,
-        Call::Marks(_) | Call::Question(..) => place <= Slip::AsKind as usize,
-        Call::Write(_) => place >= Slip::Never as usize,
-    }
-}
-
-fn tells(call: &Call, slip: Slip) -> bool {
-    if !concerns(slip, call) {
-        return false;
-    }
-    match call {
-        // A search takes long: it is made where the slip lets another ship in.
-        Call::Question(bytes, ..) if reader(None).read(bytes) == reader(Some(slip)).read(bytes) => {
-            false
-        }
-        _ => answer(call, Some(slip)) != answer(call, None),
-    }
-}
-
-/// The line of the call, with a slip or none.
-fn answer(call: &Call, slip: Option<Slip>) -> String {
-    let working = reader(slip);
-    let read = |bytes: &[u8]| working.read(bytes);
-    let answer = match call {
-        Call::Read(bytes) => read(bytes).map(|ship| {
-            let mut written = vec![0; bytes.len()];
-            working.pack(&mut written, &ship.raw());
-            format!("{} {}", report::ship_line(&ship), report::ending(bytes, &written))
-        }),
-        Call::Marks(bytes) => read(bytes).and_then(|ship| {
-            let marks = marks::marks(&ship)?;
-            working.late(&ship.raw())?;
-            Ok(marks.to_string())
-        }),
-        Call::Question(bytes, height, wish) => read(bytes).and_then(|ship| {
-            let k = question::shortest_poop_of(&ship, *height, *wish)?;
-            working.late(&ship.raw())?;
-            Ok(format!("poop {k}"))
-        }),
-        Call::Write(trial) => Ok(trial.line_by(|buffer, raw| working.write(buffer, raw))),
-    };
-    answer.unwrap_or_else(|refusal| refusal.to_string())
-}
-
-fn reader(slip: Option<Slip>) -> Working {
-    Working { slip }
-}
-
-struct Working {
+pub struct Working {
     slip: Option<Slip>,
 }
 
@@ -190,6 +72,72 @@ struct Head {
     spare: u64,
 }
 
+impl calls::Working for Working {
+    type Slip = Slip;
+    const SLIPS: &'static [(Slip, u8, &'static str)] = SLIPS;
+
+    fn with(slip: Option<Slip>) -> Working {
+        Working { slip }
+    }
+
+    /// Reading judges nothing after 22 but what is in the record.
+    fn concerns(slip: Slip, call: &Call) -> bool {
+        let place = slip as usize;
+        match call {
+            Call::Read(_) if slip == Slip::Last => false,
+            Call::Read(_) => place <= Slip::WritesReducedAsA as usize,
+            Call::Marks(_) | Call::Question(..) => place <= Slip::AsKind as usize,
+            Call::Write(_) => place >= Slip::Never as usize,
+        }
+    }
+
+    fn read(&self, bytes: &[u8]) -> Taken {
+        let ship = self.ship(bytes)?;
+        let late = self.late(&ship.raw()).err();
+        Ok((ship, late))
+    }
+
+    fn record(&self, raw: &RawShip) -> Vec<u8> {
+        let lowest = Version::lowest(raw);
+        match (self.slip, lowest) {
+            (Some(Slip::WritesSecond), Version::One) => packed_as(Version::Two, raw),
+            (Some(Slip::WritesFirst), Version::Two) => packed_as(Version::One, raw),
+            (Some(Slip::WritesFirstLayout), Version::Two) => {
+                let mut record = packed_as(Version::One, raw);
+                bits::put_over(&mut record, 0, 4, 2);
+                record
+            }
+            (Some(Slip::WritesReducedAsA), Version::Two) if raw.kind == 3 => {
+                packed_as(Version::One, &RawShip { kind: 0, ..raw.clone() })
+            }
+            _ => packed_as(lowest, raw),
+        }
+    }
+
+    /// Refusals 3, 4, 7 to 11, 18, 22, 23 and 17.
+    fn write(&self, buffer: &mut [u8], raw: &RawShip) -> Result<usize, Refusal> {
+        let kind = match self.has(Slip::StatedLowBits) {
+            true => raw.kind & 7,
+            false => raw.kind,
+        };
+        let last = match self.slip {
+            Some(Slip::StatedSecondRefused) => 1,
+            Some(Slip::StatedFourthRefused) => 3,
+            Some(Slip::StatedFifth) => 7,
+            _ => 4,
+        };
+        Refusal::unless(kind <= last, Refusal::KIND)?;
+        Refusal::unless(raw.n <= MAX_HOUSES as u64, Refusal::TOO_MANY_HOUSES)?;
+        let raw = RawShip { kind, ..raw.clone() };
+        self.judged(&raw)?;
+        let record = self.record(&raw);
+        let place = buffer.get_mut(..record.len()).ok_or(Refusal::at(Refusal::SHORT_BUFFER, 0))?;
+        self.late(&raw)?;
+        place.copy_from_slice(&record);
+        Ok(record.len())
+    }
+}
+
 impl Working {
     fn has(&self, slip: Slip) -> bool {
         self.slip == Some(slip)
@@ -199,13 +147,13 @@ impl Working {
         let head = u64::from(u16::from_be_bytes([bytes[0], bytes[1]]));
         let version = head >> 12;
         let bits = match self.slip {
-            Some(Slip::FirstLayout) => 2,
+            Some(Slip::FirstLayout) if version == 2 => 2,
             Some(Slip::SecondLayout) => 3,
             _ if version < 2 => 2,
             _ => 3,
         };
         let spare = match self.slip {
-            Some(Slip::FirstSpare) => 6,
+            Some(Slip::FirstSpare) if version == 2 => 6,
             Some(Slip::SecondSpare) => 5,
             Some(Slip::SpareNotInSecond) if version == 2 => 0,
             _ => 8 - bits,
@@ -218,23 +166,23 @@ impl Working {
         }
     }
 
-    /// Refusals 1 to 11, 18 and 22.
-    fn read(&self, bytes: &[u8]) -> Result<Ship, Refusal> {
+    /// Refusals 1 to 11, 18, 22 and 23.
+    fn ship(&self, bytes: &[u8]) -> Result<Ship, Refusal> {
         Refusal::unless(bytes.len() >= record::HEADER_BYTES, Refusal::SHORT_RECORD)?;
         let head = self.head(bytes);
         let known = match self.slip {
-            Some(Slip::FirstOnly) => head.version == 1,
-            Some(Slip::SecondOnly) => head.version == 2,
-            Some(Slip::ZeroRead) => head.version <= 2,
-            Some(Slip::ThirdRead) => (1..=3).contains(&head.version),
-            _ => (1..=2).contains(&head.version),
+            Some(Slip::FirstOnly) => [1, 3].contains(&head.version),
+            Some(Slip::SecondOnly) => [2, 3].contains(&head.version),
+            Some(Slip::ZeroRead) => head.version <= 3,
+            _ => (1..=3).contains(&head.version),
         };
         let version = Refusal::unless(known, Refusal::VERSION);
         let kind = Refusal::unless(self.kind_read(&head), Refusal::KIND);
         let count = Refusal::unless(head.n <= MAX_HOUSES as u64, Refusal::TOO_MANY_HOUSES);
-        let bytes_of_n = record::HEADER_BYTES + record::HOUSE_BYTES * head.n as usize;
+        let layout = Version::of(head.version).unwrap_or(Version::One);
+        let bytes_of_n = layout.record_bytes(head.n as usize);
         let length = Refusal::unless(bytes.len() == bytes_of_n, Refusal::RECORD_LENGTH);
-        let (raw, house_spare) = record::unpack(bytes);
+        let (raw, house_spare) = record::unpack(layout, bytes);
         let raw = RawShip { kind: head.kind.min(4), n: head.n, ..raw };
         let early = match self.has(Slip::BeforeSpare) {
             true => self.twenty_two(&raw),
@@ -255,14 +203,14 @@ impl Working {
         match (head.version, self.slip) {
             (1, Some(Slip::TypesInFirst)) => true,
             (..=1, _) => head.kind <= 1,
-            (_, Some(Slip::PlainNotInSecond)) => (2..=4).contains(&head.kind),
+            (2, Some(Slip::PlainNotInSecond)) => (2..=4).contains(&head.kind),
             (_, Some(Slip::FourthRefused)) => head.kind <= 3,
             (_, Some(Slip::FifthRead)) => true,
             _ => head.kind <= 4,
         }
     }
 
-    /// Refusals 7, 22, 8, 9 to 11 and 18 of a ship with a known type.
+    /// Refusals 7, 22, 8, 9, 23, 10, 11 and 18 of a ship with a known type.
     fn judged(&self, raw: &RawShip) -> Result<Ship, Refusal> {
         let plain = RawShip { kind: 1, ..raw.clone() };
         // Without houses 7 or 8 is all that is left.
@@ -328,44 +276,6 @@ impl Working {
         match takes && !forgotten {
             true => Err(refusal),
             false => Ok(()),
-        }
-    }
-
-    /// Refusals 3, 4, 7 to 11, 18, 22 and 17.
-    fn write(&self, buffer: &mut [u8], raw: &RawShip) -> Result<usize, Refusal> {
-        let kind = match self.has(Slip::StatedLowBits) {
-            true => raw.kind & 7,
-            false => raw.kind,
-        };
-        let last = match self.slip {
-            Some(Slip::StatedSecondRefused) => 1,
-            Some(Slip::StatedFourthRefused) => 3,
-            Some(Slip::StatedFifth) => 7,
-            _ => 4,
-        };
-        Refusal::unless(kind <= last, Refusal::KIND)?;
-        Refusal::unless(raw.n <= MAX_HOUSES as u64, Refusal::TOO_MANY_HOUSES)?;
-        let raw = RawShip { kind, ..raw.clone() };
-        self.judged(&raw)?;
-        let length = record::record_bytes(raw.n as usize);
-        let record = buffer.get_mut(..length).ok_or(Refusal::at(Refusal::SHORT_BUFFER, 0))?;
-        self.late(&raw)?;
-        self.pack(record, &raw);
-        Ok(length)
-    }
-
-    fn pack(&self, record: &mut [u8], raw: &RawShip) {
-        match (self.slip, raw.kind) {
-            (Some(Slip::WritesSecond), _) => record::pack_as(Version::Two, record, raw),
-            (Some(Slip::WritesFirst), _) => record::pack_as(Version::One, record, raw),
-            (Some(Slip::WritesFirstLayout), 2..) => {
-                record::pack_as(Version::One, record, raw);
-                bits::put_over(record, 0, 4, 2);
-            }
-            (Some(Slip::WritesReducedAsA), 3) => {
-                record::pack(record, &RawShip { kind: 0, ..raw.clone() });
-            }
-            _ => record::pack(record, raw),
         }
     }
 }

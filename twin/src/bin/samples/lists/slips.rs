@@ -144,21 +144,22 @@ impl Check<'_> {
         let pair = self.pair();
         let beside = |slip| pair.filter(|_| self.has(slip)).and_then(|said| said.mm);
         let nine = self.alone(9, beside(Slip::NineWithOverlap));
+        let sides = self.alone(23, None);
         let ten = self.alone(10, beside(Slip::TenWithOverlap));
         match self.slip {
-            Some(Slip::NineAfterList) => pair.or(nine).or(ten),
+            Some(Slip::NineAfterList) => pair.or(nine).or(sides).or(ten),
             Some(Slip::NineAfterOrder) => {
-                pair.filter(|said| said.number == 18).or(nine).or(ten).or(pair)
+                pair.filter(|said| said.number == 18).or(nine).or(sides).or(ten).or(pair)
             }
-            Some(Slip::TenAfterList) => nine.or(pair).or(ten),
+            Some(Slip::TenAfterList) => nine.or(sides).or(pair).or(ten),
             Some(Slip::HouseByHouse) => {
-                [nine, ten, pair].into_iter().flatten().min_by_key(|said| said.place)
+                [nine, sides, ten, pair].into_iter().flatten().min_by_key(|said| said.place)
             }
-            _ => nine.or(ten).or(pair),
+            _ => nine.or(sides).or(ten).or(pair),
         }
     }
 
-    /// Refusal 9 or 10, which a house by itself is enough for.
+    /// Refusal 9, 10 or 23, which a house by itself is enough for.
     fn alone(&self, number: u8, mm: Option<i64>) -> Option<Said> {
         let refused = |house: &House| {
             let alone = record::check_houses(self.list.length, &[*house]);

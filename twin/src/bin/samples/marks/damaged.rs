@@ -1,4 +1,4 @@
-//! Refusals 1 to 11, 18 and 22, and the order between them.
+//! Refusals 1 to 11, 18, 22 and 23, and the order between them.
 
 use super::Cases;
 use crate::bytes::{over, packed, resized, COUNT, HOUSE_SPARE, KIND, SPARE, VERSION};
@@ -6,7 +6,8 @@ use crate::heads;
 use crate::lists;
 use crate::refused;
 use crate::ships::{extremes, house, k1, k2, open, quarterdeck, three_houses, with};
-use twin::record::{self, House, RawShip};
+use crate::sides;
+use twin::record::{House, RawShip, Version};
 
 pub fn damaged(all: &mut Cases) {
     header(all);
@@ -24,7 +25,7 @@ fn header(all: &mut Cases) {
     all.bytes("nine-houses", refused(4, 0), nine);
     all.bytes("bytes-28-no-house", refused(5, 0), resized(packed(&k1()), 28));
     all.bytes("header-spare-bit", refused(6, 0), over(packed(&k1()), SPARE + 5, 1, 1));
-    let last = 8 * record::record_bytes(2) + HOUSE_SPARE;
+    let last = 8 * Version::One.record_bytes(2) + HOUSE_SPARE;
     all.bytes("last-house-spare-bit", refused(6, 0), over(packed(&three_houses()), last, 1, 1));
     all.marks("eight-houses-extreme-values", &extremes());
     all.marks("three-houses-certified", &three_houses());
@@ -99,6 +100,23 @@ pub fn heads(all: &mut Cases) {
         all.refused(&format!("22-before-12-type-{kind}"), 22, 0, &sinking);
         let heavy = RawShip { displacement: 1 << 19, immersion: 1, ..raw };
         all.refused(&format!("22-before-13-type-{kind}"), 22, 0, &heavy);
+    }
+}
+
+/// Ships and records about set-in sides, and what comes after 23.
+pub fn sides(all: &mut Cases) {
+    for case in sides::ships() {
+        all.ship(&case.name, case.expected, &case.raw);
+    }
+    for case in sides::records() {
+        all.bytes(&case.name, case.expected, case.bytes);
+    }
+    for (name, breadth, beam) in sides::BAD {
+        let raw = sides::forecastle(breadth, beam);
+        let sinking = RawShip { depth: 1_000, ..raw.clone() };
+        all.refused(&format!("side-23-{name}-before-12"), 23, 0, &sinking);
+        let heavy = RawShip { displacement: 1 << 19, immersion: 1, ..raw };
+        all.refused(&format!("side-23-{name}-before-13"), 23, 0, &heavy);
     }
 }
 

@@ -1,4 +1,4 @@
-//! Records to work the marks of: the line is the six marks, or one of refusals 1 to 13, 18 and 22.
+//! Records to work the marks of: the line is the six marks, or one of refusals 1 to 13, 18, 22 and 23.
 
 mod borders;
 mod damaged;
@@ -7,6 +7,7 @@ mod houses;
 mod last;
 mod low;
 mod sheer;
+mod sides;
 mod types;
 
 use std::ops::Range;
@@ -14,6 +15,7 @@ use std::ops::Range;
 use crate::bytes::packed;
 use crate::heads::slips::Heads;
 use crate::lists::slips::Lists;
+use crate::sides::slips::Sides;
 use crate::slips::{self, tells, Slip, SLIPS};
 use crate::{overlap, refused, Expected, Sample};
 use twin::marks;
@@ -29,6 +31,7 @@ pub struct Cases {
     groups: Vec<(&'static str, usize)>,
     pub lists: Lists,
     pub heads: Heads,
+    pub sides: Sides,
 }
 
 impl Cases {
@@ -48,6 +51,7 @@ impl Cases {
             Err(refusal) => refusal.to_string(),
         };
         self.heads.marks(&bytes, &line);
+        self.sides.marks(&bytes, &line);
         self.samples.push(Sample::new(name, bytes, line, expected));
     }
 
@@ -84,6 +88,16 @@ impl Cases {
     fn ranges(&self) -> impl Iterator<Item = (&'static str, Range<usize>)> + '_ {
         let ends = self.groups.iter().skip(1).map(|group| group.1).chain([self.samples.len()]);
         self.groups.iter().zip(ends).map(|(&(name, start), end)| (name, start..end))
+    }
+
+    /// Stops if few cases tell a slip.
+    fn enough(&self) {
+        for &(slip, _, what) in SLIPS {
+            assert!(self.told_by(slip).len() >= LEAST, "too few cases tell: {what}");
+        }
+        self.lists.enough("marks");
+        self.heads.enough("marks");
+        self.sides.enough("marks");
     }
 
     /// How many cases each group has; for each slip, how many cases of which group it changes.
@@ -162,11 +176,9 @@ pub fn cases() -> Cases {
     all.group("lists", damaged::lists);
     types::groups(&mut all);
     all.group("heads", damaged::heads);
-    for &(slip, _, what) in SLIPS {
-        assert!(all.told_by(slip).len() >= LEAST, "too few cases tell: {what}");
-    }
-    all.lists.enough("marks");
-    all.heads.enough("marks");
+    sides::groups(&mut all);
+    all.group("sides", damaged::sides);
+    all.enough();
     all
 }
 

@@ -76,8 +76,7 @@ two-read version s m k {word} {breadths} bs e h p q =
     let first-is : word ≡ number (take 8 (drop a s)) = p ∙ (λ i. number (take (eight i) (drop (27 + e i * k) s))) in
     let last-is : breadths ≡ number (take (n - 8) (drop 8 (drop a s))) =
     q ∙ (λ i. number (take (rest i) (drop (27 + m * k + 8) s))) ∙ (λ i. number (take (e i - 8) (drop (27 + e i * k + 8) s)))
-    ∙ ap (λ (t : List ℕ). number (take (n - 8) t)) (sym (drop-drop 8 a s)) in
-    (
+    ∙ ap (λ (t : List ℕ). number (take (n - 8) t)) (sym (drop-drop 8 a s)) in (
       ap₂ (λ (u v : ℕ). houseOf (unpack eightWidths u ++ unpack breadthWidths v)) first-is last-is ∙ sym (house-words version s bs a long),
       ap (λ (u : ℕ). u % 128) first-is ∙ sym (spare-words version s bs a long),
     )

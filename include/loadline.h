@@ -98,7 +98,7 @@ enum loadline_refusal {
 
 /* What a ship's `kind` may be: its type, as regulation 27 has it. All but A are type B ships, whose
  * marks are worked alike, but for the line that they begin from and the least freeboard. The version is that in which a ship
- * is written whose houses all have full breadth; with set-in sides it is 3.
+ * is written whose houses all have full breadth; if one of them has breadths, equal ones too, it is 3.
  *
  *   Type             The line                                                     Least S and T   Version
  *   A                table 28.1                                                   50 mm           1

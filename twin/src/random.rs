@@ -36,7 +36,7 @@ impl Random {
     }
 
     /// A valid ship of any of the five types with `n` houses. One in three is a low one, one in eight
-    /// has its mark about the floor; one in three of all has houses that are set in.
+    /// has its mark about the floor; one time in three houses of it are set in.
     pub fn any_ship(&mut self, n: usize) -> RawShip {
         let kind = self.kind();
         let mut raw = match self.between(1, 24) {

@@ -56,8 +56,7 @@ impl Kind {
     }
 }
 
-/// What the head's bits are, which with version, type, number of houses and spare make two bytes; and
-/// how many bytes a house has.
+/// How many bits of the head's first two bytes are the type's and spare, and how many bytes a house has.
 #[derive(Clone, Copy, Debug, PartialEq, Eq)]
 pub enum Version {
     One = 1,

@@ -285,8 +285,8 @@ fn seven_hundredths() {
     assert_eq!(of(92_500, 14_000, 15_000).effective, 7_000_000);
     assert!(of(92_500, 14_000, 15_000).deduction > 0);
     assert_eq!(of(92_500, 13_999, 15_000).deduction, 0);
-    // A fraction of a um below it.
-    assert_eq!(of(92_500, 60_293, 65_535).deduction, 0);
+    // 7.6 um below it.
+    assert_eq!(of(92_500, 61_165, 65_534).deduction, 0);
     assert_eq!(of(92_500, 61_166, 65_535).effective, 7_000_000);
     assert!(of(92_500, 61_166, 65_535).deduction > 0);
     let bow = |aft, breadth| of(aft, breadth, 10_000).bow;
@@ -350,7 +350,8 @@ fn exact_value() {
     assert_eq!(exact.corrected, whole(1_075) + addition - full * share);
 }
 
-/// The bound, and what a rounding costs, with up to eight houses that are set in.
+/// The bound, and what the roundings before the last cost, with up to eight houses that are set in: 12 um is the most that the papers' roundings can,
+/// and 9.75 a little more than these ships have.
 #[test]
 fn bound_over_set_in_ships() {
     let mut random = Random::new(92);

@@ -117,7 +117,7 @@ pub fn length_of(v: Verdict, x: Ship) -> u64
     ensures { λ r. ⌜ r ≡ pick (eqb (paper v .number) 0) (bytesFor x) 0 ⌝ }
 {
     match v {
-        Verdict::Accepted => record::record_bytes(record::lowest_for(x), x.n) as u64,
+        Verdict::Accepted => record::record_length(record::lowest_for(x), x.n) as u64,
         Verdict::Refused(_) => 0,
     }
 }

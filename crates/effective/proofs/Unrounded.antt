@@ -1,11 +1,11 @@
 -- What code has of one house is 33's and 35's fractions, and leaves room.
 use Prim.Native.Nat.{ℕ, _*_, _≤_, _<_}
-use mathlib.Core.Bool.{Bool, true, false, _&&_, true≢false}
+use mathlib.Core.Bool.{Bool, true, false, true≢false}
 use mathlib.Core.Path.{_≡_, refl, sym, ap, _∙_}
 use native.Mathlib.Omega.{arith}
 use native.Mathlib.Decide.{decLt}
 use native.Mathlib.Nat.{min-le-right, mul-one, mul-pos}
-use lib.Dec.{eqb, leb, ltb}
+use lib.Dec.{leb, ltb}
 use borrow.Author.Tests.{leb-true, ltb-true, eq-eqb}
 use Rattle.whole.proofs.Pick.{pick-true, by-cases, by-both}
 use Rattle.whole.proofs.Divide.{mul-most}

@@ -1,6 +1,6 @@
 -- Standard heights, ratios and effective lengths as code has them, by numerator and denominator, of numbers that leave room for products.
 -- `low-same`, `ratio-exact`, `breadths-exact` and `unrounded-exact` tie them to 33's and 35's fractions: nobody needs to believe this page.
-use Prim.Native.Nat.{ℕ, _+_, _-_, _*_, _≤_, min}
+use Prim.Native.Nat.{ℕ, _-_, _*_, _≤_, min}
 use mathlib.Core.Bool.{Bool}
 use lib.Dec.{leb, ltb}
 use Rattle.whole.specs.Pick.{pick}

@@ -1,7 +1,7 @@
 // The standard height of a house (33), the ratio of its height to that, the ratio of its breadth to the ship's, and its effective length (35), which is its
 // length, limited, in both ratios. All are fractions, which nothing here rounds.
 ghost use mathlib.Core.Path.{_≡_};
-ghost use Prim.Native.Nat.{_*_, _≤_, _<_};
+ghost use Prim.Native.Nat.{_*_, _≤_};
 ghost use Rattle.whole.specs.Frac.{frac, _≈f_};
 ghost use Rattle.houses.specs.Height as Height;
 ghost use Rattle.houses.specs.Effective.{limitedLength, breadthRatio, exactEffective};

@@ -1,4 +1,4 @@
--- Every number of an answer has room in a signed one, and the length of a written record is one of nine.
+-- Every number of an answer has room in a signed one, and a written record has at most eight houses.
 use Prim.Native.Nat.{ℕ, _+_, _-_, _^_, _≤_, _<_}
 use mathlib.Core.Path.{_≡_, sym, ap, subst}
 use mathlib.Core.List.{List, _++_}

@@ -15,7 +15,7 @@ use answers::WriteAnswer;
 use flat::FlatShip;
 use mark::Answer;
 
-// The six marks of a ship record: refusals 1 to 13, 18 and 22.
+// The six marks of a ship record: refusals 1 to 13, 18, 22 and 23.
 #[no_mangle]
 pub extern "C" fn loadline_marks(bytes: &[u8]) -> MarksAnswer
     ensures equation { λ r. ⌜ r ≡ fromSheet (sheetIn (now (bytes .entry))) ⌝ }
@@ -28,7 +28,7 @@ pub extern "C" fn loadline_marks(bytes: &[u8]) -> MarksAnswer
     }
 }
 
-// The shortest poop of the given height in mm for which S is at most the wish in mm: refusals 1 to 11, 18 and 22, then 14, 15 and 16.
+// The shortest poop of the given height in mm for which S is at most the wish in mm: refusals 1 to 11, 18, 22 and 23, then 14, 15 and 16.
 #[no_mangle]
 pub extern "C" fn loadline_shortest_poop(bytes: &[u8], height: u64, wish: u64) -> PoopAnswer
     ensures { λ r. ⌜ r ≡ fromReply (replyIn (now (bytes .entry)) height wish) ⌝ }
@@ -37,7 +37,7 @@ pub extern "C" fn loadline_shortest_poop(bytes: &[u8], height: u64, wish: u64) -
     answers::poop_of(a)
 }
 
-// A ship record as a ship: refusals 1 to 11, 18 and 22.
+// A ship record as a ship: refusals 1 to 11, 18, 22 and 23.
 #[no_mangle]
 pub extern "C" fn loadline_read(bytes: &[u8]) -> ReadAnswer
     ensures { λ r. ⌜ r ≡ fromReading (readingIn (now (bytes .entry))) ⌝ }

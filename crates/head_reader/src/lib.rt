@@ -73,7 +73,7 @@ pub fn check_head(h: Head, bytes: usize) -> Verdict
         return Verdict::Refused(Refusal::HouseCount);
     }
     let n = h.count as usize;
-    if bytes != record::record_bytes(h.version, n) {
+    if bytes != record::record_length(h.version, n) {
         return Verdict::Refused(Refusal::RecordLength);
     }
     Verdict::Accepted

@@ -1,8 +1,8 @@
 // The head of a record as four words, written over its 27 bytes: in a word each field shifts those before it up by its range.
 ghost use mathlib.Core.Path.{_≡_};
-ghost use Prim.Native.Nat.{_-_, _≤_, _<_};
+ghost use Prim.Native.Nat.{_<_};
 ghost use lib.ListN.{length, take};
-ghost use Rattle.bits.specs.Fields.{pack, bytes, Fit};
+ghost use Rattle.bits.specs.Fields.{pack, Fit};
 ghost use Rattle.record.specs.Layout.{openingWidths, headWidths, headFields, headBytes};
 ghost use Rattle.record.specs.Words.{firstWidths, fullnessWidths, fourWidths, lastWidths, firstFields, fullnessFields, fourFields, lastFields};
 use record::Head;

@@ -1,4 +1,4 @@
--- Two tests that follow from each other give the same answer; and checks 9 and 10 by such tests.
+-- Two tests that follow from each other give the same answer; checks 9 and 10 by such tests, and 23 within 16 bits.
 use Prim.Native.Nat.{ℕ, _-_, _+_, _*_, _≤_, _<_}
 use mathlib.Core.Bool.{Bool, true, false, not, _&&_, _||_}
 use mathlib.Core.Path.{_≡_, refl}

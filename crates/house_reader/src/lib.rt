@@ -8,7 +8,7 @@ ghost use Rattle.record.specs.Layout.{recordLength, houseOf, placesIn};
 ghost use Rattle.record.specs.Words.{eightWidths, breadthWidths};
 ghost use Rattle.record.specs.Reading.{sparesIn};
 use record::HEAD_BYTES;
-use record::HOUSE_BYTES;
+use record::HOUSE_WORD;
 use record::after;
 use record::range;
 use ship::House;
@@ -41,7 +41,7 @@ pub fn houses_in(s: &[u8], version: u64, n: usize) -> Houses
     requires { ⌜ (n ≤ 8) × (recordLength version n ≤ length (now s)) ⌝ }
     ensures { λ r. ⌜ (r .places ≡ placesIn version n (now (s .entry))) × (r .spare ≡ sparesIn version (now (s .entry)) n) × (r .spare ≤ 1024) ⌝ }
 {
-    let size = record::house_bytes(version);
+    let size = record::house_size(version);
     // Places beyond n read as zero.
     let none = house_of(0, 0);
     let mut places = [none; 8];
@@ -49,7 +49,7 @@ pub fn houses_in(s: &[u8], version: u64, n: usize) -> Houses
     let mut k = 0;
     while k < n {
         let a = HEAD_BYTES + size * k;
-        let b = a + HOUSE_BYTES;
+        let b = a + HOUSE_WORD;
         let e = a + size;
         let word = bits::word(&s[a..b]);
         let breadths = bits::word(&s[b..e]); // 0 in versions 1 and 2, where it has no byte

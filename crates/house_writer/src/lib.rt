@@ -7,7 +7,7 @@ ghost use Rattle.bits.specs.Fields.{pack, bytes};
 ghost use Rattle.record.specs.Layout.{recordLength, HousesFit, housesBytes};
 ghost use Rattle.record.specs.Words.{eightWidths, breadthWidths, eightFields, breadthFields};
 use record::HEAD_BYTES;
-use record::HOUSE_BYTES;
+use record::HOUSE_WORD;
 use record::range;
 use ship::House;
 
@@ -23,7 +23,7 @@ fn put_house(out: &mut [u8], h: House)
     let word = word * range::END + record::station_field(h.fore);
     let word = word * range::HEIGHT + h.height.0;
     let breadths = h.breadth.0 * range::BREADTH + h.beam.0;
-    bits::put_two(out, HOUSE_BYTES, word * range::HOUSE_SPARE, breadths);
+    bits::put_two(out, HOUSE_WORD, word * range::HOUSE_SPARE, breadths);
 }
 
 // Writes the first `n` houses, each in its own bytes: from 27 + 8k on, and in version 3 from 27 + 12k on.
@@ -32,7 +32,7 @@ pub fn put_houses(buf: &mut [u8], version: u64, houses: [House; 8], n: usize)
     requires { ⌜ HousesFit version (take n houses) ⌝ }
     ensures { λ _. ⌜ now (buf .exit) ≡ (take 27 (now (buf .entry)) ++ housesBytes version (take n houses)) ++ drop (recordLength version n) (now (buf .entry)) ⌝ }
 {
-    let size = record::house_bytes(version);
+    let size = record::house_size(version);
     let mut k = 0;
     while k < n {
         let a = HEAD_BYTES + size * k;

@@ -1,4 +1,4 @@
--- What checks 9 to 11 and 18 show of a list of houses, said along the list.
+-- What checks 9 to 11, 18 and 23 show of a list of houses, said along the list.
 use Prim.Native.Nat.{ℕ, suc, _≤_, _<_}
 use mathlib.Core.List.{List, [], _∷_}
 use lib.ListN.{length}

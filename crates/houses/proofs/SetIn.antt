@@ -1,12 +1,13 @@
 -- 02 §6: setting houses in, or writing equal breadths for full breadth, never raises E, and leaves all else that the houses give.
-use Prim.Native.Nat.{ℕ, _+_, _≤_}
+use Prim.Native.Nat.{ℕ, _+_, _*_, _≤_, _<_}
 use mathlib.Core.Bool.{Bool, true, false, not, _&&_, true≢false}
 use mathlib.Core.List.{List, [], _∷_}
 use mathlib.Core.Path.{_≡_, refl, sym, ap, ap₂, subst, _∙_}
 use native.Mathlib.Omega.{arith}
+use borrow.Author.Tests.{ne-eqb}
 use Rattle.whole.specs.Pick.{pick}
 use Rattle.whole.specs.Frac.{Frac, _≤f_, whole, _+f_, _*f_, floor}
-use Rattle.whole.proofs.Frac.{refl≤, trans≤, +-mono≤, *-mono≤}
+use Rattle.whole.proofs.Frac.{bot-of, refl≤, trans≤, +-mono≤, *-mono≤}
 use Rattle.whole.proofs.Round.{exactly, by-floor, below-sum, floor-mono}
 use Rattle.units.specs.declared.Span.{Span}
 use Rattle.ship.specs.declared.House.{House}
@@ -17,6 +18,7 @@ use Rattle.houses.specs.Effective.{limitedLength, breadthRatio, exactEff
 use Rattle.houses.specs.Forecastle.{houseThat, isForecastle, forecastleOf}
 use Rattle.houses.specs.Amidships.{coversAmidships, amidshipsOf}
 use Rattle.houses.specs.Cover.{isAmidships, reachOf, reach}
+use Rattle.houses.proofs.Limits.{breadth-most, breadth-full, breadth-set-in}
 
 -- ---- in what words
 -- a house with these breadths
@@ -75,6 +77,21 @@ module _ {g h : House} (n : Narrowed g h) where
 
 pub narrowed-self : (h : House) → Narrowed h h
 narrowed-self h = record { alike = refl; kept = λ e. e; ratio = refl≤ (breadthRatio h) }
+
+-- breadths given to a house of full breadth set it in, equal ones too, if its own is no greater than the ship's
+pub from-full : (g : House) (b s : Span) → fullBreadth g ≡ true → b .0 ≤ s .0 → Narrowed g (withBreadths b s g)
+from-full g b s e p = record { alike = refl; kept = λ h. e; ratio = rw (breadth-full g e) (breadth-most (withBreadths b s g) p) }
+
+-- and so do breadths of a ratio that is no greater, given to one that has breadths
+pub from-set-in : (g : House) (b s : Span) → fullBreadth g ≡ false → 0 < g .beam .0 → 0 < b .0 → 0 < s .0 → b .0 * g .beam .0 ≤ g .breadth .0 * s .0
+    → Narrowed g (withBreadths b s g)
+from-set-in g b s e p q r h =
+    let n : fullBreadth (withBreadths b s g) ≡ false = rw (ne-eqb (b .0) 0 (λ z. omega arith)) refl in
+    record {
+      alike = refl;
+      kept = λ t. absurd (true≢false (sym t ∙ n));
+      ratio = rw (breadth-set-in (withBreadths b s g) n, breadth-set-in g e) (record { le = rw (bot-of (s .0) r, bot-of (g .beam .0) p) h });
+    }
 
 -- the house that passes a test which does not look at breadths
 pub narrowed-that : (test : House → Bool) → ((b s : Span) (g : House) → test (withBreadths b s g) ≡ test g) → (gs hs : List House) → AllNarrowed gs hs

@@ -38,7 +38,7 @@ fn is_untouched(out: &[u8; 128], e: usize) -> bool {
 fn print_written(out: &[u8; 128], x: Ship) {
     let t = &out[..];
     if x.n as u64 <= MOST_HOUSES {
-        let e = record::record_bytes(record::lowest_for(x), x.n);
+        let e = record::record_length(record::lowest_for(x), x.n);
         show::hex(&t[0..e]);
         if !is_untouched(out, e) {
             show::text(b" and more");

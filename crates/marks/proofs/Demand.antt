@@ -25,7 +25,7 @@ unfolding sheetFor sheetAt sixMarks
 bounded x k (Given m) e = rw (given-marks (first (markLines (particularsOf x) (summerOf x))) (sixMarks (particularsOf x) (summerOf x)) m e .1) (summer-bounded x k)
 bounded x k (Refused r) e = tt
 
--- bytes whose lines 1 to 11, 18 and 22 all pass are of a ship that the steps can take
+-- bytes whose lines 1 to 11, 18, 22 and 23 all pass are of a ship that the steps can take
 pub sound : (s : List ℕ) → AllPass (frameLines s) → AllPass (shipLines (shipIn s)) → Sound (shipIn s)
 unfolding shipIn
 sound s a b =

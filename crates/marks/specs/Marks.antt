@@ -1,4 +1,4 @@
--- The marks call: refusals 1 to 13, 22 after 7, and 18 with 11, in the papers' order, then the six marks.
+-- The marks call: refusals 1 to 13, 22 after 7, 23 after 9, and 18 with 11, in the papers' order, then the six marks.
 use Prim.Native.Nat.{ℕ}
 use mathlib.Core.List.{List, _++_}
 use Rattle.ship.specs.declared.Ship.{Ship}

@@ -1,4 +1,4 @@
-// The six marks of a ship, or of any bytes as a ship record: refusals 1 to 13, 18 and 22 in the table's order.
+// The six marks of a ship, or of any bytes as a ship record: refusals 1 to 13, 18, 22 and 23 in the table's order.
 ghost use mathlib.Core.Path.{_≡_};
 ghost use Rattle.record.specs.Layout.{shipIn};
 ghost use Rattle.mark.specs.Others.{sheet};

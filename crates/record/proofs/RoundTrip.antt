@@ -266,7 +266,7 @@ version-holds s f =
     let n = headIn s .count in
     let hs = housesIn v n (drop 27 s) in
     let e : take n (hs ++ replicate (8 - n) noHouse) ≡ hs = take-at hs (replicate (8 - n) noHouse) n (length-housesIn v n (drop 27 s)) in
-    (f .type, subst (HousesFit v) (sym e) (record { each = λ k h. all-fit v n (drop 27 s) k (omega (arith, length-housesIn v n (drop 27 s))) }))
+    (f .first, f .last, f .type, subst (HousesFit v) (sym e) (record { each = λ k h. all-fit v n (drop 27 s) k (omega (arith, length-housesIn v n (drop 27 s))) }))
 
 -- and its record in the lowest one is no longer
 size-grows : (v w : ℕ) → v ≤ w → houseSize v ≤ houseSize w
@@ -282,7 +282,7 @@ no-longer s f =
     let x = shipIn s in
     let v = headIn s .version in
     let m : lowestFor x ≤ v =
-    elim (decLt v (lowestFor x)) [ yes l ↦ absurd (lowest-is-lowest x v (f .first) l (version-holds s f)) | no l ↦ omega arith ] in
+    elim (decLt v (lowestFor x)) [ yes l ↦ absurd (lowest-is-lowest x v l (version-holds s f)) | no l ↦ omega arith ] in
     omega (arith, f .exact, mul-le-mul-right (headIn s .count) (size-grows (lowestFor x) v m))
 
 module _ (s : List ℕ) (x : Ship) (e : readingIn s ≡ record { verdict = accepted; ship = x }) where

@@ -43,7 +43,7 @@ writing-passed room x e =
     (ltb-false lastType (x .kind) (p .0), ltb-false 8 (x .n) (p .1 .0), first-passed (shipLines x) (r .0), ltb-false room (bytesFor x) (r .1 .0))
 
 -- ---- the lowest version
--- a list in which no house has breadths, and one in which some has
+-- no house of a list has breadths: by the test, and house by house
 none-set-in : (hs : List House) → anySetIn hs ≡ false → (k : ℕ) → k < length hs → fullBreadth (Vessel.houseAt hs k) ≡ true
 unfolding anySetIn
 none-set-in [] e k h = absurd (omega arith)
@@ -55,7 +55,7 @@ unfolding anySetIn
 all-full [] f = refl
 all-full (g ∷ hs) f = rw (f 0 (omega arith), all-full hs (λ k h. f (suc k) (omega arith))) refl
 
--- a breadth of no bits is 0
+-- full breadth is two zeros
 full-breadths : (h : House) → fullBreadth h ≡ true → (h .breadth .0 ≡ 0) × (h .beam .0 ≡ 0)
 full-breadths h e =
     let p = and-eq-true-iff (eqb (h .breadth .0) 0) (eqb (h .beam .0) 0) .0 e in
@@ -98,24 +98,24 @@ houses-fit x g = record {
 
 -- so it holds the ship
 pub lowest-holds : (x : Ship) → x .kind ≤ lastType → Good x → Holds (lowestFor x) x
-lowest-holds x k g = (lowest-has x k .5, houses-fit x g)
+lowest-holds x k g = let v = lowest-has x k in (v .3, v .4, v .5, houses-fit x g)
 
 -- and no lower one does
-pub lowest-is-lowest : (x : Ship) (version : ℕ) → 1 ≤ version → version < lowestFor x → ¬ (Holds version x)
+pub lowest-is-lowest : (x : Ship) (version : ℕ) → version < lowestFor x → ¬ (Holds version x)
 unfolding lowestFor breadthBits pick
-lowest-is-lowest x version h l holds = go (anySetIn (housesOf x)) refl l
+lowest-is-lowest x version l holds = go (anySetIn (housesOf x)) refl l
   where
     go : (b : Bool) → anySetIn (housesOf x) ≡ b → version < pick b 3 (pick (ltb (lastTypeIn 1) (x .kind)) 2 1) → ⊥
     go true e m =
         let low : leb version 2 ≡ true = le-leb version 2 (omega arith) in
         let none = all-full (housesOf x) (λ k p.
-        let f = rw low at (holds .1 .each k p) in
+        let f = rw low at (holds .3 .each k p) in
         breadths-full (Vessel.houseAt (housesOf x) k) (f .1 .1 .1 .1 .1 .1 .0) (f .1 .1 .1 .1 .1 .1 .1 .0)) in
         true≢false (sym e ∙ none)
     go false e m =
         by-cases (λ (v : ℕ). version < v → ⊥) (ltb (lastTypeIn 1) (x .kind)) _ _
-        (λ t n. let o : version ≡ 1 = omega arith in omega (arith, ltb-true (lastTypeIn 1) (x .kind) t, rw o at (holds .0)))
-        (λ t n. omega arith) m
+        (λ t n. let o : version ≡ 1 = omega (arith, holds .0) in omega (arith, ltb-true (lastTypeIn 1) (x .kind) t, rw o at (holds .2)))
+        (λ t n. omega (arith, holds .0)) m
 
 pub head-fits : (x : Ship) → x .kind ≤ lastType → x .n ≤ 8 → Good x → Fit (headWidths (shipHead x .version)) (headFields (shipHead x))
 head-fits x k n g =

@@ -180,9 +180,9 @@ headFor version x = record {
   immersion = x .immersion;
 }
 
--- a version holds a ship if it has the ship's type, and bits enough for its houses
+-- a version holds a ship if it is one, has the ship's type, and has bits for every number of its houses
 abbrev pub Holds : ℕ → Ship → Type 0
-Holds version x = (x .kind ≤ lastTypeIn version) × HousesFit version (housesOf x)
+Holds version x = (1 ≤ version) × (version ≤ lastVersion) × (x .kind ≤ lastTypeIn version) × HousesFit version (housesOf x)
 
 -- some house of a list has breadths
 unfoldable pub anySetIn : List House → Bool

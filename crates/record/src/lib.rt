@@ -19,12 +19,12 @@ pub mod after;
 pub mod range;
 pub mod width;
 
-// Bytes of the head, of a house without its breadths, and of the two breadths.
+// Bytes of the head, and of a house's two words: all but its breadths, and these.
 pub const HEAD_BYTES: usize = 27;
 
-pub const HOUSE_BYTES: usize = 8;
+pub const HOUSE_WORD: usize = 8;
 
-pub const BREADTH_BYTES: usize = 4;
+pub const BREADTHS_WORD: usize = 4;
 
 // The versions; the last of the types; the most houses.
 pub const FIRST_VERSION: u64 = 1;
@@ -78,22 +78,22 @@ pub fn last_type_in(version: u64) -> u64
 }
 
 // How many bytes a house has in a version.
-pub fn house_bytes(version: u64) -> usize
+pub fn house_size(version: u64) -> usize
     ensures { λ r. ⌜ (r ≡ houseSize version) × (8 ≤ r) × (r ≤ 12) ⌝ }
 {
     if version <= SECOND_VERSION {
-        HOUSE_BYTES
+        HOUSE_WORD
     } else {
-        HOUSE_BYTES + BREADTH_BYTES
+        HOUSE_WORD + BREADTHS_WORD
     }
 }
 
 // How many bytes a record of `n` houses has in a version.
-pub fn record_bytes(version: u64, n: usize) -> usize
+pub fn record_length(version: u64, n: usize) -> usize
     requires { ⌜ n ≤ 8 ⌝ }
     ensures { λ r. ⌜ (r ≡ recordLength version n) × (r ≤ 123) ⌝ }
 {
-    HEAD_BYTES + house_bytes(version) * n
+    HEAD_BYTES + house_size(version) * n
 }
 
 // Whether some of the first `n` houses have breadths.

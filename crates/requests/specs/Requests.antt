@@ -96,7 +96,7 @@ covered5 = 0x28 ∷ 0x20 ∷ particulars ++ forecastle
 abbrev pub second5 : List ℕ
 second5 = 0x22 ∷ 0x00 ∷ particulars
 
--- ---- §6: k2 in version 3, its house with a breadth of two bytes in a ship of 10 m. sample/setin.record has 9500 mm
+-- ---- §6: k2 in version 3, its house with a breadth of two bytes where the ship has 10000 mm. sample/setin.record has 9500 mm
 unfoldable pub sides6 : ℕ → ℕ → List ℕ
 sides6 a b = 0x32 ∷ 0x20 ∷ particulars ++ forecastle ++ (a ∷ b ∷ 0x27 ∷ 0x10 ∷ [])
 

@@ -1,15 +1,13 @@
 -- 02 §6, of a ship: setting houses in, or writing equal breadths for full breadth, never raises E and never lowers the summer mark, all else equal.
 use mathlib.Core.Path.{_≡_, refl, sym, subst}
 use mathlib.Core.List.{List}
-use Prim.Native.Nat.{ℕ, _+_, _≤_, _<_}
+use Prim.Native.Nat.{ℕ, _≤_, _<_}
 use native.Mathlib.Omega.{arith}
 use native.Mathlib.Nat.{le-refl}
 use Rattle.percentages.specs.Table37.{ordinaryRow}
 use Rattle.ship.specs.declared.House.{House}
 use Rattle.ship.specs.declared.Ship.{Ship}
 use Rattle.ship.specs.Vessel.{housesOf}
-use Rattle.houses.specs.Length.{partOf}
-use Rattle.houses.specs.Effective.{exactEffective}
 use Rattle.houses.proofs.SetIn.{Narrowed, AllNarrowed, same-of, same-part, same-ratio, less-effective, same-covered, same-cover, narrowed-forecastle, narrowed-amidships, set-in-less}
 use Rattle.corrections.specs.Fullness30.{counted}
 use Rattle.corrections.proofs.Gathered.{added-falls}
@@ -60,11 +58,11 @@ module _ (x : Ship) (hs : List House) (n : AllNarrowed (housesOf x) (housesOf (w
   unfolding coverReach
   same-reach = same-cover l (housesOf x) (housesOf y) n
 
-  same-amidships : amidshipsRatio y ≡ amidshipsRatio x
+  pub same-amidships : amidshipsRatio y ≡ amidshipsRatio x
   unfolding amidshipsRatio
   same-amidships = same-ratio (narrowed-amidships l (housesOf x) (housesOf y) n) l
 
-  same-bow : bowOf y ≡ bowOf x
+  pub same-bow : bowOf y ≡ bowOf x
   unfolding bowOf
   same-bow = rw (same-part forecastle l, same-of forecastle (λ h. h .height .0) (λ b s. refl)) refl
 

@@ -17,7 +17,7 @@ use Rattle.ship.specs.Good.{GoodHouse, GoodHouses}
 use Rattle.houses.specs.Length.{partOf, total, coveredLength}
 use Rattle.houses.specs.Effective.{exactEffective, exactEffectiveLength, those, isOrdinary, isRaised, isSetIn, effectiveLength}
 use Rattle.houses.proofs.Counted.{covered-most}
-use Rattle.effective.specs.Unrounded.{lowHeight, greatestSize, greatestLength, greatestBreadth, FairBreadths, topOf, bottomOf, unroundedOf, FairLength}
+use Rattle.effective.specs.Unrounded.{lowHeight, greatestLength, FairBreadths, topOf, bottomOf, unroundedOf}
 use Rattle.effective.proofs.Unrounded.{low-sized, unrounded-exact, bottom-full, bottom-some, top-most}
 use Rattle.summed.specs.declared.Summed.{Summed}
 use Rattle.summed.specs.Summed.{down, summedOf, more, bottomIn, summedWith, effectiveOn, FairSum, FairSummed}

@@ -24,7 +24,7 @@ pub struct Unrounded {
     pub bottom: u64,
 }
 
-// The ratio of a house's height to its standard height, a fraction of at most 1: `top` / `bottom`.
+// A ratio of a house's heights or of breadths, a fraction of at most 1: `top` / `bottom`.
 pub struct Ratio {
     pub top: u64,
     pub bottom: u64,

@@ -63,7 +63,7 @@ fn verdict(x: Ship, room: usize) -> Verdict
     if x.n as u64 > record::MOST_HOUSES {
         return Verdict::Refused(Refusal::HouseCount);
     }
-    let short = room < record::record_bytes(record::lowest_for(x), x.n);
+    let short = room < record::record_length(record::lowest_for(x), x.n);
     let last = refusal::line(short, Refusal::ShortBuffer, Verdict::Accepted);
     let checked = checks::of_ship(x);
     refusal::after(checked, last)

@@ -1,5 +1,5 @@
 use Prim.Native.Nat.{ℕ, _≤_}
-use mathlib.Core.Path.{_≡_, refl, ap, _∙_}
+use mathlib.Core.Path.{refl, ap, _∙_}
 use native.Mathlib.Omega.{arith}
 use borrow.Author.Needs.{needs}
 use borrow.Author.Tests.{ne-eqb}
@@ -27,7 +27,7 @@ length-of-spec =
     (λ c.
     let v = c .before in
     let t = v .before in
-    rw (t .enum-told .given .1) (c .record-bytes .ensures .0 ∙ ap (λ (w : ℕ). recordLength w (t .before .before .args .x .n)) (v .lowest-for .ensures)))
+    rw (t .enum-told .given .1) (c .record-length .ensures .0 ∙ ap (λ (w : ℕ). recordLength w (t .before .before .args .x .n)) (v .lowest-for .ensures)))
     (λ c.
     let r = c .enum-told2 .given .0 .0 in
     rw (c .enum-told2 .given .1, ne-eqb (numberOf r) 0 (λ z. omega (arith, number-above-0 r))) refl))

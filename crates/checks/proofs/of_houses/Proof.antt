@@ -13,7 +13,7 @@ use Rattle.ship.specs.declared.rule.Rule.{Rule}
 use Rattle.ship.specs.declared.rule.Rule.the-variants.{EndsAndHeight, SetInSides, RaisedQuarterdeck, Follows}
 use Rattle.ship.specs.declared.House.{House}
 use Rattle.ship.specs.Refusals.{Paper, Line, accepted, refused, first}
-use Rattle.ship.specs.Checks.{firstBreach, houseLine, orderLines, houseLines}
+use Rattle.ship.specs.Checks.{firstBreach, houseLine, orderLines}
 use Rattle.ship.proofs.Lines.{Numbered, first-append}
 use Rattle.checks.proofs.of_houses.Statement.{statement}
 use Rattle.checks.proofs.of_houses.Tie as tie

@@ -40,7 +40,7 @@ check-head-spec =
     let h = s .h in
     let b : h .kind ≤ lastTypeIn (h .version) = omega (arith, t .last-type-in .ensures) in
     let d : h .count ≤ 8 = omega arith in
-    let e : s .bytes ≢ recordLength (h .version) (h .count) = omega (arith, r .record-bytes .ensures .0, c .if4 .taken) in
+    let e : s .bytes ≢ recordLength (h .version) (h .count) = omega (arith, r .record-length .ensures .0, c .if4 .taken) in
     rw (o .if1 .left, le-ltb (lastTypeIn (h .version)) (h .kind) b, le-ltb 8 (h .count) d, ne-eqb (s .bytes) (recordLength (h .version) (h .count)) e) refl)
     (λ c.
     let r = c .before in
@@ -50,5 +50,5 @@ check-head-spec =
     let h = s .h in
     let b : h .kind ≤ lastTypeIn (h .version) = omega (arith, t .last-type-in .ensures) in
     let d : h .count ≤ 8 = omega arith in
-    let e : s .bytes ≡ recordLength (h .version) (h .count) = omega (arith, r .record-bytes .ensures .0, c .if4 .left) in
+    let e : s .bytes ≡ recordLength (h .version) (h .count) = omega (arith, r .record-length .ensures .0, c .if4 .left) in
     rw (o .if1 .left, le-ltb (lastTypeIn (h .version)) (h .kind) b, le-ltb 8 (h .count) d, eq-eqb (s .bytes) (recordLength (h .version) (h .count)) e) refl))

@@ -3,7 +3,6 @@ use Prim.Native.Nat.{ℕ, _≤_}
 use mathlib.Core.Bool.{false, _||_}
 use mathlib.Core.Path.{_≡_, sym}
 use lib.Dec.{ltb}
-use borrow.Author.Needs.{needs}
 use borrow.Author.Tests.{ltb-false}
 use native.Mathlib.Omega.{arith}
 use Rattle.ship.proofs.Lines.{or-false}

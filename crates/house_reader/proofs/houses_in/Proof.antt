@@ -26,16 +26,16 @@ abbrev μ-loop : tie.MeasureT-loop
 room : (l : tie.At-loop Inv-loop μ-loop)
     → let b = l .before .before in
     let a = b .before .before .args in
-    let m = b .house-bytes .result in
+    let m = b .house-size .result in
     let k = l .loop .k in
     k < a .n → (8 ≤ m) × (m * k + m ≤ 96) × (27 + m * k + m ≤ length (now (a .s)))
 room l h =
     let b = l .before .before in
     let s = b .before .before in
     let a = s .args in
-    let m = b .house-bytes .result in
+    let m = b .house-size .result in
     let k = l .loop .k in
-    let e = b .house-bytes .ensures in
+    let e = b .house-size .ensures in
     let within : 27 + m * a .n ≤ length (now (a .s)) = subst (λ (z : ℕ). 27 + z * a .n ≤ length (now (a .s))) (sym (e .0)) (s .pre .1) in
     let p : m * (k + 1) ≤ m * a .n = mul-le-mul-left m (omega arith) in
     (e .1, omega (arith, p, mul-most m (a .n) 12 8 (e .2) (s .pre .0)), omega (arith, p, within))
@@ -78,7 +78,7 @@ houses-in-spec =
     let k = l .loop .k in
     let s = now (a .s) in
     let bytes : (i : ℕ) → getD s i 0 < 256 = λ i. omega (arith, f .shared-slice-known .given i) in
-    let t = two-read (a .version) s (b .house-bytes .result) k bytes (b .house-bytes .ensures .0) (room l (omega arith) .2) (v .word .ensures) (w .word2 .ensures) in (
+    let t = two-read (a .version) s (b .house-size .result) k bytes (b .house-size .ensures .0) (room l (omega arith) .2) (v .word .ensures) (w .word2 .ensures) in (
       omega arith,
       rw (c .house-of2 .ensures, t .0, l .loop .inv .1) (places-more (a .version) s k (omega arith)),
       rw (t .1, l .loop .inv .2) (spares-more (a .version) s k),

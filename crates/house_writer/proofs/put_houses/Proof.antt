@@ -27,16 +27,16 @@ abbrev μ-loop : tie.MeasureT-loop
 room : (l : tie.At-loop Inv-loop μ-loop)
     → let b = l .before in
     let a = b .before .before .args in
-    let m = b .house-bytes .result in
+    let m = b .house-size .result in
     let k = l .loop .k in
     k < a .n → (8 ≤ m) × (m ≤ 12) × (m * k + m ≤ 96) × (27 + m * k + m ≤ length (l .loop .buf))
 room l h =
     let b = l .before in
     let s = b .before .before in
     let a = s .args in
-    let m = b .house-bytes .result in
+    let m = b .house-size .result in
     let k = l .loop .k in
-    let e = b .house-bytes .ensures in
+    let e = b .house-size .ensures in
     let within : 27 + m * a .n ≤ length (now (a .buf)) = subst (λ (z : ℕ). 27 + z * a .n ≤ length (now (a .buf))) (sym (e .0)) (s .pre .0 .1) in
     let p : m * (k + 1) ≤ m * a .n = mul-le-mul-left m (omega arith) in
     (e .1, e .2, omega (arith, p, mul-most m (a .n) 12 8 (e .2) (s .pre .0 .0)), omega (arith, p, within, l .loop .inv .2))
@@ -86,8 +86,8 @@ put-houses-spec =
     let b = l .before in
     let a = b .before .before .args in
     let k = l .loop .k in
-    let m = b .house-bytes .result in
-    let e = b .house-bytes .ensures .0 in
+    let m = b .house-size .result in
+    let e = b .house-size .ensures .0 in
     let r = room l (omega arith) in
     let n : 27 + m * k + m - (27 + m * k) ≡ houseSize (a .version) = omega (arith, e) in
     let q : length (take (27 + m * k + m - (27 + m * k)) (drop (27 + m * k) (l .loop .buf))) ≡ houseSize (a .version) = simp (length-take, length-drop) (omega (arith, e, r)) in

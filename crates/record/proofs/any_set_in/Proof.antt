@@ -8,7 +8,7 @@ use lib.Seq.{length-take-le, getD-take, drop-cons}
 use native.Mathlib.Numerals.{add-one}
 use native.Mathlib.Omega.{arith}
 use borrow.Author.Needs.{needs}
-use Rattle.ship.specs.Vessel.{fullBreadth, houseAt}
+use Rattle.ship.specs.Vessel.{houseAt}
 use Rattle.record.specs.Layout.{anySetIn}
 use Rattle.record.proofs.any_set_in.Statement.{statement}
 use Rattle.record.proofs.any_set_in.Tie as tie

@@ -1,7 +1,6 @@
 use mathlib.Core.Path.{ap₂}
 use Prim.Native.Nat.{ℕ, _+_}
 use native.Mathlib.Omega.{arith}
-use borrow.Author.Needs.{needs}
 use Rattle.summed.proofs.effective_length.Statement.{statement}
 use Rattle.summed.proofs.effective_length.Tie as tie
 

@@ -36,6 +36,6 @@ verdict-spec =
     let r = l .before in
     let v = r .before in
     let a = v .before .before .before .before .args in
-    let bytes : r .record-bytes .result ≡ bytesFor (a .x) = r .record-bytes .ensures .0 ∙ ap (λ (w : ℕ). recordLength w (a .x .n)) (v .lowest-for .ensures) in
+    let bytes : r .record-length .result ≡ bytesFor (a .x) = r .record-length .ensures .0 ∙ ap (λ (w : ℕ). recordLength w (a .x .n)) (v .lowest-for .ensures) in
     c .after .ensures
     ∙ rw (o .of-ship .ensures, l .line .ensures, bytes) (sym (writing-judged (a .room) (a .x) (omega arith) (omega arith)))))

@@ -1,5 +1,5 @@
-//! What was compared, how many marks of each type were in it, how often a house that is set in and a
-//! reduction for depth was, and how often each refusal was seen, 11, 18, 22 and 23 in each call; for
+//! What was compared, how many marks of each type were in it, how many have a house that is set in or
+//! a reduction for depth, and how often each refusal was seen, 11, 18, 22 and 23 in each call; for
 //! inputs around the borders of sheer, where the marks lie.
 
 use std::fmt;
@@ -28,7 +28,7 @@ const WRITES_BACK: &str = "writes back";
 const CALLS: [&str; 5] = ["marks", "reads", WRITES_BACK, "writes", "questions"];
 const REFUSALS: [usize; 20] =
     [1, 2, 3, 4, 5, 6, 7, 22, 8, 9, 23, 10, 11, 18, 12, 13, 14, 15, 16, 17];
-/// Those of one of the later papers, each of them of every call.
+/// Those that are counted by call.
 const LATER: [usize; 4] = [11, 18, 22, 23];
 /// One more than the greatest.
 const NUMBERS: usize = 24;

@@ -593,7 +593,7 @@ enum Slip {
     BreadthsLeft,
 }
 
-/// The first slip about types; one more case must tell each of these.
+/// The first slip about types and breadths; one more case must tell each of these.
 const LATER: usize = Slip::AsksAsB as usize;
 
 const SLIPS: [Slip; 26] = [

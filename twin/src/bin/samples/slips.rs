@@ -249,7 +249,7 @@ fn up(number: i128, divisor: i128) -> i128 {
     -down(-number, divisor)
 }
 
-/// Sum of fractions, over the least divisor of both: it fits for four ship's breadths, all unlike.
+/// Sum of fractions, over the least divisor of both: an i128 holds it for four breadths of the ship, all unlike.
 fn added((a, b): (i128, i128), (c, d): (i128, i128)) -> (i128, i128) {
     let common = divisor(b, d);
     (a * (d / common) + c * (b / common), b / common * d)

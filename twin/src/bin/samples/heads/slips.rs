@@ -30,7 +30,7 @@ slips! {
     Never 22 "never",
     BeforeFields 22 "judged before 7",
     AfterCertified 22 "judged after 8",
-    AfterHouses 22 "judged after 9 to 11 and 18",
+    AfterHouses 22 "judged after 9 to 11, 18 and 23",
     Last 22 "judged after 12 to 17",
     Below100 22 "100 m allowed for types 2 and 3",
     At200 22 "200 m refused for type 4",

@@ -4,12 +4,12 @@ use borrow.Author.Needs.{needs}
 use borrow.Author.Tests.{le-leb, lt-leb}
 use Rattle.whole.proofs.Pick.{pick-true, pick-false}
 use Rattle.record.specs.Layout.{houseSize}
-use Rattle.record.proofs.house_bytes.Statement.{statement}
-use Rattle.record.proofs.house_bytes.Tie as tie
+use Rattle.record.proofs.house_size.Statement.{statement}
+use Rattle.record.proofs.house_size.Tie as tie
 
-pub house-bytes-spec : {M : Type 1} → statement M
+pub house-size-spec : {M : Type 1} → statement M
 unfolding houseSize
-house-bytes-spec =
+house-size-spec =
     tie.close
     (tie.spec
     (λ c. search needs)

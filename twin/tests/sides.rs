@@ -350,8 +350,8 @@ fn exact_value() {
     assert_eq!(exact.corrected, whole(1_075) + addition - full * share);
 }
 
-/// The bound, and what the roundings before the last cost, with up to eight houses that are set in: 12 um is the most that the papers' roundings can,
-/// and 9.75 a little more than these ships have.
+/// The bound, and what the roundings before the last cost, with up to eight houses that are set in: 12 um
+/// is the most that they can, and 9.75 a little more than these ships have.
 #[test]
 fn bound_over_set_in_ships() {
     let mut random = Random::new(92);

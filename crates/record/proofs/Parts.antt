@@ -1,18 +1,19 @@
 -- How long a record's parts are, and that fields stand within their widths.
 use Prim.Native.Nat.{ℕ, zero, suc, _+_, _*_, _^_, _≤_, _<_}
 use mathlib.Core.List.{List, [], _∷_}
-use mathlib.Core.Path.{_≡_, refl, ap}
+use mathlib.Core.Path.{_≡_, refl, sym, ap, subst}
 use lib.ListN.{length, take, drop, getD, length-append}
 use native.Mathlib.Omega.{arith}
 use lib.Dec.{eqb, leb}
 use lib.Pow.{pow-mono}
-use native.Mathlib.Nat.{lt-of-lt-of-le}
+use native.Mathlib.Nat.{lt-of-lt-of-le, mul-le-mul-left}
+use Rattle.whole.proofs.Divide.{mul-most}
 use Rattle.whole.proofs.Pick.{by-cases, by-both}
 use Rattle.bits.specs.Fields.{total, number, piece, pack, unpack}
 use Rattle.bits.proofs.Radix.{length-bytes, fit-unpack, fit-each}
 use Rattle.ship.specs.declared.House.{House}
 use Rattle.record.specs.declared.Head.{Head}
-use Rattle.record.specs.Layout.{kindBits, spareBits, breadthBits, houseSize, headWidths, houseWidths, houseFields, houseBytes, housesBytes, housesIn, headFields, headBytes, versionIn, headIn}
+use Rattle.record.specs.Layout.{kindBits, spareBits, breadthBits, houseSize, recordLength, headWidths, houseWidths, houseFields, houseBytes, housesBytes, housesIn, headFields, headBytes, versionIn, headIn}
 
 pub length-houseBytes : (version : ℕ) (h : House) → length (houseBytes version h) ≡ houseSize version
 unfolding houseBytes
@@ -50,6 +51,15 @@ house-total version = by-both (λ (w n : ℕ). 1 + (1 + (21 + (21 + (13 + (7 + (
 pub size-within : (version : ℕ) → (8 ≤ houseSize version) × (houseSize version ≤ 12)
 unfolding houseSize
 size-within version = by-cases (λ (n : ℕ). (8 ≤ n) × (n ≤ 12)) (leb version 2) _ _ (λ t. omega arith) (λ t. omega arith)
+
+-- a house's m bytes are within those of a record that has it, and few
+pub house-within : (version n k : ℕ) {m len : ℕ} → m ≡ houseSize version → n ≤ 8 → k < n → recordLength version n ≤ len
+    → (8 ≤ m) × (m ≤ 12) × (m * k + m ≤ 96) × (27 + m * k + m ≤ len)
+house-within version n k {m} {len} e few h within =
+    let s = size-within version in
+    let w : 27 + m * n ≤ len = subst (λ (z : ℕ). 27 + z * n ≤ len) (sym e) within in
+    let p : m * (k + 1) ≤ m * n = mul-le-mul-left m (omega arith) in
+    (omega (arith, e, s), omega (arith, e, s), omega (arith, p, mul-most m n 12 8 (omega (arith, e, s)) few), omega (arith, p, w))
 
 -- the bits of the head's fields
 abbrev pub fieldsIn : List ℕ → List ℕ

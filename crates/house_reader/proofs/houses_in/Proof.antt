@@ -1,16 +1,15 @@
 -- The places passed hold the record's houses, the others nothing; the spare bits so far are those of the houses passed.
 use Prim.Native.Nat.{ℕ, _+_, _-_, _*_, _≤_, _<_}
-use mathlib.Core.Path.{_≡_, refl, sym, ap, subst, _∙_}
+use mathlib.Core.Path.{_≡_, refl, ap, _∙_}
 use mathlib.Core.List.{_++_}
 use lib.ListN.{length, drop, getD, replicate}
 use denote.Ref.{now}
-use native.Mathlib.Nat.{mul-le-mul-left}
 use native.Mathlib.Omega.{arith}
 use borrow.Author.Needs.{needs}
-use Rattle.whole.proofs.Divide.{mul-most}
 use Rattle.ship.specs.Vessel.{noHouse}
 use Rattle.record.specs.Layout.{housesIn, placesIn}
 use Rattle.record.specs.Reading.{sparesIn}
+use Rattle.record.proofs.Parts.{house-within}
 use Rattle.house_reader.proofs.Places.{zero-bits, two-read, places-more, spares-more}
 use Rattle.house_reader.proofs.houses_in.Statement.{statement}
 use Rattle.house_reader.proofs.houses_in.Tie as tie
@@ -28,17 +27,11 @@ room : (l : tie.At-loop Inv-loop μ-loop)
     let a = b .before .before .args in
     let m = b .house-size .result in
     let k = l .loop .k in
-    k < a .n → (8 ≤ m) × (m * k + m ≤ 96) × (27 + m * k + m ≤ length (now (a .s)))
+    k < a .n → (8 ≤ m) × (m ≤ 12) × (m * k + m ≤ 96) × (27 + m * k + m ≤ length (now (a .s)))
 room l h =
     let b = l .before .before in
     let s = b .before .before in
-    let a = s .args in
-    let m = b .house-size .result in
-    let k = l .loop .k in
-    let e = b .house-size .ensures in
-    let within : 27 + m * a .n ≤ length (now (a .s)) = subst (λ (z : ℕ). 27 + z * a .n ≤ length (now (a .s))) (sym (e .0)) (s .pre .1) in
-    let p : m * (k + 1) ≤ m * a .n = mul-le-mul-left m (omega arith) in
-    (e .1, omega (arith, p, mul-most m (a .n) 12 8 (e .2) (s .pre .0)), omega (arith, p, within))
+    house-within (s .args .version) (s .args .n) (l .loop .k) (b .house-size .ensures .0) (s .pre .0) h (s .pre .1)
 
 pub houses-in-spec : {M : Type 1} → statement M
 unfolding placesIn sparesIn
@@ -78,7 +71,7 @@ houses-in-spec =
     let k = l .loop .k in
     let s = now (a .s) in
     let bytes : (i : ℕ) → getD s i 0 < 256 = λ i. omega (arith, f .shared-slice-known .given i) in
-    let t = two-read (a .version) s (b .house-size .result) k bytes (b .house-size .ensures .0) (room l (omega arith) .2) (v .word .ensures) (w .word2 .ensures) in (
+    let t = two-read (a .version) s (b .house-size .result) k bytes (b .house-size .ensures .0) (room l (omega arith) .3) (v .word .ensures) (w .word2 .ensures) in (
       omega arith,
       rw (c .house-of2 .ensures, t .0, l .loop .inv .1) (places-more (a .version) s k (omega arith)),
       rw (t .1, l .loop .inv .2) (spares-more (a .version) s k),

@@ -1,17 +1,17 @@
 -- The houses passed stand in their bytes; all other bytes are as they were.
-use Prim.Native.Nat.{ℕ, _+_, _-_, _*_, _≤_, _<_}
-use mathlib.Core.Path.{_≡_, refl, sym, subst, _∙_}
+use Prim.Native.Nat.{_+_, _-_, _*_, _≤_, _<_}
+use mathlib.Core.Path.{_≡_, refl, sym, _∙_}
 use mathlib.Core.List.{_++_, append-nil}
 use lib.ListN.{length, take, drop, length-take, length-drop, take-append-drop}
 use lib.Seq.{length-take-le, getD-take}
 use denote.Ref.{now}
-use native.Mathlib.Nat.{mul-zero, mul-le-mul-left}
+use native.Mathlib.Nat.{mul-zero}
 use native.Mathlib.Omega.{arith}
 use borrow.Author.Needs.{needs}
-use Rattle.whole.proofs.Divide.{mul-most}
 use Rattle.bits.specs.Fields.{Fit}
 use Rattle.ship.specs.Vessel.{houseAt}
-use Rattle.record.specs.Layout.{houseWidths, houseSize, houseFields, housesBytes}
+use Rattle.record.specs.Layout.{recordLength, houseWidths, houseSize, houseFields, housesBytes}
+use Rattle.record.proofs.Parts.{house-within}
 use Rattle.house_writer.proofs.Written.{house-put, fit-limits, houses-more}
 use Rattle.house_writer.proofs.put_houses.Statement.{statement}
 use Rattle.house_writer.proofs.put_houses.Tie as tie
@@ -33,13 +33,8 @@ room : (l : tie.At-loop Inv-loop μ-loop)
 room l h =
     let b = l .before in
     let s = b .before .before in
-    let a = s .args in
-    let m = b .house-size .result in
-    let k = l .loop .k in
-    let e = b .house-size .ensures in
-    let within : 27 + m * a .n ≤ length (now (a .buf)) = subst (λ (z : ℕ). 27 + z * a .n ≤ length (now (a .buf))) (sym (e .0)) (s .pre .0 .1) in
-    let p : m * (k + 1) ≤ m * a .n = mul-le-mul-left m (omega arith) in
-    (e .1, e .2, omega (arith, p, mul-most m (a .n) 12 8 (e .2) (s .pre .0 .0)), omega (arith, p, within, l .loop .inv .2))
+    let w : recordLength (s .args .version) (s .args .n) ≤ length (l .loop .buf) = omega (arith, s .pre .0 .1, l .loop .inv .2) in
+    house-within (s .args .version) (s .args .n) (l .loop .k) (b .house-size .ensures .0) (s .pre .0 .0) h w
 
 -- the house at hand fits
 fit : (l : tie.At-loop Inv-loop μ-loop)

@@ -12,8 +12,8 @@ use units::Effective;
 use units::Span;
 use units::Unrounded;
 
-// The ordinary houses' effective lengths, added, and the raised quarterdeck's: each over the numerator of its standard height. Then those of the houses with
-// breadths.
+// The ordinary houses' effective lengths, added, and the raised quarterdeck's: each over the numerator of its standard height. Then
+// what the houses with breadths have, each rounded down.
 pub struct Summed {
     pub ordinary: Unrounded,
     pub raised: Unrounded,

@@ -351,7 +351,7 @@ fn exact_value() {
 }
 
 /// The bound, and what the roundings before the last cost, with up to eight houses that are set in: 12 um
-/// is the most that they can, and 9.75 a little more than these ships have.
+/// is the most that is proved possible, and 9.75 a narrower limit, which these ships keep.
 #[test]
 fn bound_over_set_in_ships() {
     let mut random = Random::new(92);

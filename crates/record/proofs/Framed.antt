@@ -1,6 +1,6 @@
 -- What checks 1 to 6 show of accepted bytes, and what a reading then is.
 use Prim.Native.Nat.{ℕ, _+_, _≤_}
-use mathlib.Core.Bool.{not, _||_}
+use mathlib.Core.Bool.{false, not, _||_}
 use mathlib.Core.List.{List, _++_}
 use mathlib.Core.Path.{_≡_, refl, sym, ap, subst, _∙_}
 use lib.ListN.{length}
@@ -11,6 +11,7 @@ use Rattle.whole.specs.Pick.{pick}
 use Rattle.whole.proofs.Pick.{by-cases}
 use Rattle.ship.specs.declared.Ship.{Ship}
 use Rattle.ship.specs.declared.refusal.Refusal.{Refusal}
+use Rattle.ship.specs.Kinds.{timberForA}
 use Rattle.ship.specs.Vessel.{noShip}
 use Rattle.ship.specs.Refusals.{Paper, accepted, refusedAs, first}
 use Rattle.ship.specs.Checks.{shipLines}
@@ -26,6 +27,7 @@ pub record Framed (s : List ℕ) : Type 0 where
   pub first : 1 ≤ headIn s .version
   pub last : headIn s .version ≤ lastVersion
   pub type : headIn s .kind ≤ lastTypeIn (headIn s .version)
+  pub timber : timberForA (headIn s .kind) (headIn s .timber) ≡ false
   pub few : headIn s .count ≤ 8
   pub exact : length s ≡ recordLength (headIn s .version) (headIn s .count)
   pub blank : headIn s .spare + sparesIn (headIn s .version) s (headIn s .count) ≡ 0
@@ -39,9 +41,10 @@ frame-passed s p =
       first = (let n : ¬ (v ≡ 0) = eqb-false v 0 (known .0) in omega arith);
       last = ltb-false lastVersion v (known .1);
       type = ltb-false (lastTypeIn v) (headIn s .kind) (p .1 .1 .0);
-      few = ltb-false 8 (headIn s .count) (p .1 .1 .1 .0);
-      exact = eqb-true (length s) (recordLength v (headIn s .count)) (not-false (eqb (length s) (recordLength v (headIn s .count))) (p .1 .1 .1 .1 .0));
-      blank = eqb-true _ 0 (not-false _ (p .1 .1 .1 .1 .1 .0));
+      timber = p .1 .1 .1 .0;
+      few = ltb-false 8 (headIn s .count) (p .1 .1 .1 .1 .0);
+      exact = eqb-true (length s) (recordLength v (headIn s .count)) (not-false (eqb (length s) (recordLength v (headIn s .count))) (p .1 .1 .1 .1 .1 .0));
+      blank = eqb-true _ 0 (not-false _ (p .1 .1 .1 .1 .1 .1 .0));
     }
 
 -- no version holds a type past the last
@@ -59,8 +62,11 @@ frame-passes s f =
         (
           le-ltb (lastTypeIn (headIn s .version)) (headIn s .kind) (f .type),
           (
-            le-ltb 8 (headIn s .count) (f .few),
-            (ap not (eq-eqb (length s) (recordLength (headIn s .version) (headIn s .count)) (f .exact)), (ap not (eq-eqb (headIn s .spare + sparesIn (headIn s .version) s (headIn s .count)) 0 (f .blank)), tt)),
+            f .timber,
+            (
+              le-ltb 8 (headIn s .count) (f .few),
+              (ap not (eq-eqb (length s) (recordLength (headIn s .version) (headIn s .count)) (f .exact)), (ap not (eq-eqb (headIn s .spare + sparesIn (headIn s .version) s (headIn s .count)) 0 (f .blank)), tt)),
+            ),
           ),
         ),
       ),

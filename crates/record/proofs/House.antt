@@ -17,16 +17,16 @@ use Rattle.record.specs.Layout.{breadthBits, houseWidths, houseSize, hou
 use Rattle.record.proofs.Complement.{turn-turn}
 use Rattle.record.proofs.Parts.{length-houseBytes, house-total}
 
-bit-back : (b : Bool) → eqb (bit b) 1 ≡ b
+pub bit-back : (b : Bool) → eqb (bit b) 1 ≡ b
 bit-back true = refl
 bit-back false = refl
 
-bit-there : (f : ℕ) → f < 2 → bit (eqb f 1) ≡ f
+pub bit-there : (f : ℕ) → f < 2 → bit (eqb f 1) ≡ f
 bit-there zero h = refl
 bit-there (suc zero) h = refl
 bit-there (suc (suc f)) h = absurd (omega arith)
 
-bit-lt : (b : Bool) → bit b < 2
+pub bit-lt : (b : Bool) → bit b < 2
 bit-lt true = omega arith
 bit-lt false = omega arith
 

@@ -13,7 +13,7 @@ use Rattle.bits.specs.Fields.{total, number, piece, pack, unpack}
 use Rattle.bits.proofs.Radix.{length-bytes, fit-unpack, fit-each}
 use Rattle.ship.specs.declared.House.{House}
 use Rattle.record.specs.declared.Head.{Head}
-use Rattle.record.specs.Layout.{kindBits, spareBits, breadthBits, houseSize, recordLength, headWidths, houseWidths, houseFields, houseBytes, housesBytes, housesIn, headFields, headBytes, versionIn, headIn}
+use Rattle.record.specs.Layout.{kindBits, timberBits, spareBits, breadthBits, houseSize, recordLength, headWidths, houseWidths, houseFields, houseBytes, housesBytes, housesIn, headFields, headBytes, versionIn, headIn}
 
 pub length-houseBytes : (version : ℕ) (h : House) → length (houseBytes version h) ≡ houseSize version
 unfolding houseBytes
@@ -33,10 +33,22 @@ length-housesIn version zero t = refl
 length-housesIn version (suc n) t = ap suc (length-housesIn version n (drop (houseSize version) t))
 
 -- ---- a version's widths
--- what the type has more, the spare has less
-pub eight-bits : (version : ℕ) → (kindBits version + spareBits version ≡ 8) × (kindBits version ≤ 3) × (spareBits version ≤ 6)
-unfolding kindBits spareBits
-eight-bits version = by-both (λ (a b : ℕ). (a + b ≡ 8) × (a ≤ 3) × (b ≤ 6)) (eqb version 1) 2 3 6 5 (λ t. omega arith) (λ t. omega arith)
+kind-bits : (version : ℕ) → (2 ≤ kindBits version) × (kindBits version ≤ 3)
+unfolding kindBits
+kind-bits version = by-cases (λ (n : ℕ). (2 ≤ n) × (n ≤ 3)) (eqb version 1) _ _ (λ t. omega arith) (λ t. omega arith)
+
+timber-bits : (version : ℕ) → timberBits version ≤ 1
+unfolding timberBits
+timber-bits version = by-cases (λ (n : ℕ). n ≤ 1) (leb version 3) _ _ (λ t. omega arith) (λ t. omega arith)
+
+-- what the type or the flag has more, the spare has less
+pub eight-bits : (version : ℕ)
+    → (kindBits version + timberBits version + spareBits version ≡ 8) × (kindBits version ≤ 3) × (timberBits version ≤ 1) × (spareBits version ≤ 6)
+unfolding spareBits
+eight-bits version =
+    let k = kind-bits version in
+    let t = timber-bits version in
+    (omega (arith, k, t), k .1, t, omega (arith, k))
 
 -- so every head fills its 27 bytes
 pub head-total : (version : ℕ) → total (headWidths version) ≡ 8 * 27
@@ -73,7 +85,7 @@ head-within s = fit-each (headWidths (versionIn s)) (fieldsIn s) (fit-unpack (he
 pub version-first : (version n : ℕ) → getD (unpack (headWidths version) n) 0 0 ≡ piece n 212 4
 unfolding unpack
 version-first version n =
-    let e : kindBits version + (4 + (spareBits version + 200)) ≡ 212 = omega (arith, eight-bits version) in
+    let e : kindBits version + (4 + (timberBits version + (spareBits version + 200))) ≡ 212 = omega (arith, eight-bits version) in
     ap (λ (a : ℕ). piece n a 4) e
 
 pub version-is : (s : List ℕ) → headIn s .version ≡ versionIn s
@@ -82,4 +94,4 @@ version-is s = version-first (versionIn s) (number (take 27 s))
 
 pub spare-within : (s : List ℕ) → headIn s .spare < 64
 unfolding headIn
-spare-within s = lt-of-lt-of-le (head-within s 3) (pow-mono (eight-bits (versionIn s) .2))
+spare-within s = lt-of-lt-of-le (head-within s 4) (pow-mono (eight-bits (versionIn s) .3))

@@ -1,13 +1,15 @@
 -- Reading a written record gives the ship back, and writing an accepted record's ship gives its bytes back if it is in the lowest version that holds the ship.
 use Prim.Native.Nat.{ℕ, zero, suc, _+_, _-_, _*_, _^_, _≤_, _<_}
+use mathlib.Core.Bool.{false}
 use mathlib.Core.List.{List, [], _∷_, _++_, append-nil}
 use mathlib.Core.Path.{_≡_, refl, sym, ap, ap₂, subst, _∙_}
 use lib.ListN.{length, take, drop, getD, replicate, length-replicate, length-append, length-drop, take-append-drop}
 use lib.Seq.{take-at, drop-at, drop-drop, drop-append-add, length-take-le, ext-getD, take-all}
 use lib.Dec.{leb}
+use lib.Pow.{pow-mono}
 use borrow.Author.Tests.{leb-true, leb-false}
 use native.Mathlib.Decide.{decLt}
-use native.Mathlib.Nat.{mul-le-mul-right}
+use native.Mathlib.Nat.{lt-of-lt-of-le, mul-le-mul-right}
 use native.Mathlib.Omega.{arith}
 use Rattle.whole.specs.Pick.{pick}
 use Rattle.whole.proofs.Pick.{by-cases}
@@ -17,6 +19,7 @@ use Rattle.units.specs.declared.Ordinate.{Ordinate}
 use Rattle.units.specs.Datum.{lift, sheerAt, Lifted}
 use Rattle.ship.specs.declared.House.{House}
 use Rattle.ship.specs.declared.Ship.{Ship}
+use Rattle.ship.specs.Kinds.{timberForA}
 use Rattle.ship.specs.Vessel as Vessel
 use Rattle.ship.specs.Vessel.{noHouse, housesOf, clean}
 use Rattle.ship.specs.Refusals.{Paper, accepted, first}
@@ -25,14 +28,14 @@ use Rattle.ship.specs.Good.{Good}
 use Rattle.ship.proofs.Lines.{first-passed}
 use Rattle.ship.proofs.Accepted.{good}
 use Rattle.record.specs.declared.Head.{Head}
-use Rattle.record.specs.Layout.{recordLength, turn, lastVersion, lastType, lastTypeIn, HousesFit, Holds, lowestFor, houseWidths, houseSize, houseFields, houseOf, houseIn, versionIn, headWidths, headFields, headOf, headBytes, headIn, shipHead, shipOf, placesIn, shipIn, recordBytes, housesBytes, housesIn, houseAt, spareIn}
+use Rattle.record.specs.Layout.{timberBits, recordLength, bit, turn, lastVersion, lastType, lastTypeIn, HousesFit, Holds, lowestFor, houseWidths, houseSize, houseFields, houseOf, houseIn, versionIn, headWidths, headFields, headOf, headBytes, headIn, shipHead, shipOf, placesIn, shipIn, recordBytes, housesBytes, housesIn, houseAt, spareIn}
 use Rattle.record.specs.Reading.{sparesIn, readingIn}
 use Rattle.record.specs.Writing.{bytesFor, writingOf}
 use Rattle.record.proofs.Complement.{turn-turn}
-use Rattle.record.proofs.Parts.{length-headBytes, length-housesBytes, length-housesIn, head-total, size-within, fieldsIn, head-within, version-first, version-is}
+use Rattle.record.proofs.Parts.{length-headBytes, eight-bits, length-housesBytes, length-housesIn, head-total, size-within, fieldsIn, head-within, version-first, version-is}
 use Rattle.record.proofs.Framed.{passes-all, ship-is, Framed, frame-passed, frame-passes, type-most, reading-framed}
 use Rattle.record.proofs.Written.{lowest-has, lowest-is-lowest, houses-fit, head-fits, writing-accepted}
-use Rattle.record.proofs.House.{Held, AllHeld, fields-fit, houses-back, houses-there, house-at, spare-back}
+use Rattle.record.proofs.House.{bit-back, bit-there, Held, AllHeld, fields-fit, houses-back, houses-there, house-at, spare-back}
 
 -- what the types of a ship's arrays say
 pub record Shaped (x : Ship) : Type 0 where
@@ -66,6 +69,7 @@ head-fields h six l =
       version = h .version;
       kind = h .kind;
       count = h .count;
+      timber = bit-back (h .timber) i;
       spare = h .spare;
       length = h .length;
       depth = h .depth;
@@ -92,9 +96,10 @@ unfolding unpack
 fields-head s =
     let v : (k : ℕ) → ℕ = λ k. getD (fieldsIn s) k 0 in
     let w : (k : ℕ) → v k < 2 ^ getD (headWidths (versionIn s)) k 0 = head-within s in
-    λ i. v 0 ∷ v 1 ∷ v 2 ∷ v 3 ∷ v 4 ∷ v 5 ∷ v 6 ∷ v 7 ∷ v 8
-    ∷ turn-turn lift (v 9) (w 9) i ∷ turn-turn lift (v 10) (w 10) i ∷ turn-turn lift (v 11) (w 11) i
-    ∷ turn-turn lift (v 12) (w 12) i ∷ turn-turn lift (v 13) (w 13) i ∷ turn-turn lift (v 14) (w 14) i ∷ v 15 ∷ v 16 ∷ []
+    let flag : v 3 < 2 = lt-of-lt-of-le (w 3) (pow-mono (eight-bits (versionIn s) .2)) in
+    λ i. v 0 ∷ v 1 ∷ v 2 ∷ bit-there (v 3) flag i ∷ v 4 ∷ v 5 ∷ v 6 ∷ v 7 ∷ v 8 ∷ v 9
+    ∷ turn-turn lift (v 10) (w 10) i ∷ turn-turn lift (v 11) (w 11) i ∷ turn-turn lift (v 12) (w 12) i
+    ∷ turn-turn lift (v 13) (w 13) i ∷ turn-turn lift (v 14) (w 14) i ∷ turn-turn lift (v 15) (w 15) i ∷ v 16 ∷ v 17 ∷ []
 
 pub head-there : (s : List ℕ) → Bytes s → 27 ≤ length s → headBytes (headIn s) ≡ take 27 s
 unfolding headIn headBytes
@@ -124,7 +129,7 @@ all-held v [] f g = tt
 all-held v (h ∷ hs) f g = (f 0 (omega arith), g 0 (omega arith), all-held v hs (λ i q. f (suc i) (omega arith)) (λ i q. g (suc i) (omega arith)))
 
 -- ---- what the writer accepts, the reader reads back
-module _ (x : Ship) (shaped : Shaped x) (k : x .kind ≤ lastType) (m : x .n ≤ 8) (passes : first (shipLines x) ≡ accepted) where
+module _ (x : Ship) (shaped : Shaped x) (k : x .kind ≤ lastType) (t : timberForA (x .kind) (x .timber) ≡ false) (m : x .n ≤ 8) (passes : first (shipLines x) ≡ accepted) where
   g : Good x
   g = good x (ap (λ (p : Paper). p .number) passes)
 
@@ -186,9 +191,10 @@ module _ (x : Ship) (shaped : Shaped x) (k : x .kind ≤ lastType) (m : x .n ≤
       let e : (P : Head → Type 0) → P (shipHead x) → P (headIn (recordBytes x)) = λ P p. subst P (sym head-is) p in
       record {
         long = omega (arith, length-record);
-        first = e (λ h. 1 ≤ h .version) (lowest-has x k .3);
-        last = e (λ h. h .version ≤ lastVersion) (lowest-has x k .4);
-        type = e (λ h. h .kind ≤ lastTypeIn (h .version)) (lowest-has x k .5);
+        first = e (λ h. 1 ≤ h .version) (lowest-has x k .4);
+        last = e (λ h. h .version ≤ lastVersion) (lowest-has x k .5);
+        type = e (λ h. h .kind ≤ lastTypeIn (h .version)) (lowest-has x k .6);
+        timber = e (λ h. timberForA (h .kind) (h .timber) ≡ false) t;
         few = e (λ h. h .count ≤ 8) m;
         exact = e (λ h. length (recordBytes x) ≡ recordLength (h .version) (h .count)) length-record;
         blank = e (λ h. h .spare + sparesIn (h .version) (recordBytes x) (h .count) ≡ 0) (omega (arith, none-spare (lowestFor x) (recordBytes x) (x .n) blank-back));
@@ -212,6 +218,7 @@ module _ (s : List ℕ) (b : Bytes s) (f : Framed s) (lowest : versionIn s ≡ l
         version = (sym lowest ∙ sym (version-is s)) i;
         kind = h .kind;
         count = h .count;
+        timber = h .timber;
         spare = z i;
         length = h .length;
         depth = h .depth;
@@ -258,6 +265,14 @@ all-fit v zero t k h = absurd (omega arith)
 all-fit v (suc n) t zero h = read-fits v (take (houseSize v) t)
 all-fit v (suc n) t (suc k) h = all-fit v n (drop (houseSize v) t) k (omega arith)
 
+-- and so does the timber flag
+flag-held : (s : List ℕ) → bit (headIn s .timber) < 2 ^ timberBits (headIn s .version)
+unfolding headIn
+flag-held s =
+    let w = head-within s 3 in
+    let flag : getD (fieldsIn s) 3 0 < 2 = lt-of-lt-of-le w (pow-mono (eight-bits (versionIn s) .2)) in
+    rw (bit-there _ flag, version-is s) w
+
 -- so the version of an accepted record holds its ship
 version-holds : (s : List ℕ) → Framed s → Holds (headIn s .version) (shipIn s)
 unfolding shipIn placesIn
@@ -266,7 +281,7 @@ version-holds s f =
     let n = headIn s .count in
     let hs = housesIn v n (drop 27 s) in
     let e : take n (hs ++ replicate (8 - n) noHouse) ≡ hs = take-at hs (replicate (8 - n) noHouse) n (length-housesIn v n (drop 27 s)) in
-    (f .first, f .last, f .type, subst (HousesFit v) (sym e) (record { each = λ k h. all-fit v n (drop 27 s) k (omega (arith, length-housesIn v n (drop 27 s))) }))
+    (f .first, f .last, f .type, flag-held s, subst (HousesFit v) (sym e) (record { each = λ k h. all-fit v n (drop 27 s) k (omega (arith, length-housesIn v n (drop 27 s))) }))
 
 -- and its record in the lowest one is no longer
 size-grows : (v w : ℕ) → v ≤ w → houseSize v ≤ houseSize w
@@ -308,7 +323,7 @@ module _ (s : List ℕ) (x : Ship) (e : readingIn s ≡ record { verdict = accep
   writes-back room h =
       let f = framed in
       subst (λ (y : Ship). writingOf room y ≡ accepted) (ship-is s x e)
-      (writing-accepted room (shipIn s) (type-most (headIn s .version) (f .type)) (f .few) (first-passed (shipLines (shipIn s)) (passes-all s x e .1)) (omega (arith, no-longer s f)))
+      (writing-accepted room (shipIn s) (type-most (headIn s .version) (f .type)) (f .timber) (f .few) (first-passed (shipLines (shipIn s)) (passes-all s x e .1)) (omega (arith, no-longer s f)))
 
   -- its arrays have their lengths, and its places beyond n are zero already
   pub shaped-read : Shaped x

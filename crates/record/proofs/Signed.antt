@@ -75,12 +75,12 @@ ends-signed version t =
     (turned-signed 21 (omega arith) (getD (unpack ws (number t)) 2 0) (w 2), turned-signed 21 (omega arith) (getD (unpack ws (number t)) 3 0) (w 3))
 
 -- the six ordinates of sheer, 14 bits each, in mm
-pub sheer-signed : (s : List ℕ) (k : ℕ) → k < 6 → sheerOf (sheerAt (headIn s .sheer) k) ≡ signedAt (headWidths (versionIn s)) (number (take 27 s)) (9 + k)
+pub sheer-signed : (s : List ℕ) (k : ℕ) → k < 6 → sheerOf (sheerAt (headIn s .sheer) k) ≡ signedAt (headWidths (versionIn s)) (number (take 27 s)) (10 + k)
 unfolding headIn
-sheer-signed s zero h = turned-signed 14 (omega arith) (getD (fieldsIn s) 9 0) (head-within s 9)
-sheer-signed s (suc zero) h = turned-signed 14 (omega arith) (getD (fieldsIn s) 10 0) (head-within s 10)
-sheer-signed s (suc (suc zero)) h = turned-signed 14 (omega arith) (getD (fieldsIn s) 11 0) (head-within s 11)
-sheer-signed s (suc (suc (suc zero))) h = turned-signed 14 (omega arith) (getD (fieldsIn s) 12 0) (head-within s 12)
-sheer-signed s (suc (suc (suc (suc zero)))) h = turned-signed 14 (omega arith) (getD (fieldsIn s) 13 0) (head-within s 13)
-sheer-signed s (suc (suc (suc (suc (suc zero))))) h = turned-signed 14 (omega arith) (getD (fieldsIn s) 14 0) (head-within s 14)
+sheer-signed s zero h = turned-signed 14 (omega arith) (getD (fieldsIn s) 10 0) (head-within s 10)
+sheer-signed s (suc zero) h = turned-signed 14 (omega arith) (getD (fieldsIn s) 11 0) (head-within s 11)
+sheer-signed s (suc (suc zero)) h = turned-signed 14 (omega arith) (getD (fieldsIn s) 12 0) (head-within s 12)
+sheer-signed s (suc (suc (suc zero))) h = turned-signed 14 (omega arith) (getD (fieldsIn s) 13 0) (head-within s 13)
+sheer-signed s (suc (suc (suc (suc zero)))) h = turned-signed 14 (omega arith) (getD (fieldsIn s) 14 0) (head-within s 14)
+sheer-signed s (suc (suc (suc (suc (suc zero))))) h = turned-signed 14 (omega arith) (getD (fieldsIn s) 15 0) (head-within s 15)
 sheer-signed s (suc (suc (suc (suc (suc (suc k)))))) h = absurd (omega arith)

@@ -4,6 +4,7 @@ use mathlib.Core.List.{List, [], _∷_, _++_}
 use native.Mathlib.Omega.{arith}
 use lib.Dec.{ltb}
 use Rattle.ship.specs.declared.Ship.{Ship}
+use Rattle.ship.specs.Kinds.{timberForA}
 use Rattle.ship.specs.Vessel.{housesOf}
 use Rattle.ship.specs.Refusals.{Paper, Line, refused, first}
 use Rattle.ship.specs.Checks.{fieldLines, shipLines}
@@ -32,4 +33,4 @@ pub split-write : (room : ℕ) (x : Ship) → SplitOn x (writingOf room x) (firs
 unfolding writingOf
 split-write room x =
     split-lines (x .length .0) (housesOf x)
-    ((ltb lastType (x .kind), refused 3 0) ∷ (ltb mostHouses (x .n), refused 4 0) ∷ fieldLines x) ((ltb room (bytesFor x), refused 17 0) ∷ []) (omega arith) (omega arith)
+    ((ltb lastType (x .kind), refused 3 0) ∷ (timberForA (x .kind) (x .timber), refused 24 0) ∷ (ltb mostHouses (x .n), refused 4 0) ∷ fieldLines x) ((ltb room (bytesFor x), refused 17 0) ∷ []) (omega arith) (omega arith)

@@ -1,5 +1,6 @@
 -- The promises of 01 and 02 about the record, each in one statement.
 use Prim.Native.Nat.{ℕ, _+_, _-_, _≤_}
+use mathlib.Core.Bool.{false}
 use mathlib.Core.List.{List, _++_}
 use mathlib.Core.Path.{_≡_, refl, sym, ap, _∙_}
 use lib.ListN.{length, take, drop, replicate}
@@ -8,6 +9,7 @@ use native.Mathlib.Omega.{arith}
 use Rattle.whole.specs.Pick.{pick}
 use Rattle.bits.specs.Fields.{Bytes}
 use Rattle.ship.specs.declared.Ship.{Ship}
+use Rattle.ship.specs.Kinds.{timberForA}
 use Rattle.ship.specs.Vessel.{noHouse, housesOf, clean, Same}
 use Rattle.ship.specs.Refusals.{Paper, accepted, first}
 use Rattle.ship.specs.Checks.{shipLines}
@@ -19,30 +21,31 @@ use Rattle.record.proofs.RoundTrip.{Shaped, length-record, version-back
 
 -- ---- reading a written record gives the ship back
 module _ (x : Ship) (shaped : Shaped x) (buf : List ℕ) (wrote : writingOf (length buf) x ≡ accepted) where
-  right : (x .kind ≤ lastType) × (x .n ≤ 8) × (first (shipLines x) ≡ accepted)
-  right = let p = writing-passed (length buf) x (ap (λ (v : Paper). v .number) wrote) in (p .0, p .1, p .2)
+  right : (x .kind ≤ lastType) × (timberForA (x .kind) (x .timber) ≡ false) × (x .n ≤ 8) × (first (shipLines x) ≡ accepted)
+  right = let p = writing-passed (length buf) x (ap (λ (v : Paper). v .number) wrote) in (p .0, p .1, p .2, p .3)
 
   -- from the bytes that the buffer then holds; places beyond n read as zero
   pub read-what-was-written : readingIn (take (bytesFor x) (written (writingOf (length buf) x) x buf)) ≡ record { verdict = accepted; ship = clean x }
   unfolding written pick
   read-what-was-written =
-      let l = length-record x shaped (right .0) (right .1) (right .2) in
-      rw wrote (ap readingIn (take-at (recordBytes x) _ (bytesFor x) l) ∙ read-back x shaped (right .0) (right .1) (right .2))
+      let l = length-record x shaped (right .0) (right .1) (right .2) (right .3) in
+      rw wrote (ap readingIn (take-at (recordBytes x) _ (bytesFor x) l) ∙ read-back x shaped (right .0) (right .1) (right .2) (right .3))
 
   -- they are in the lowest version that holds the ship
   pub written-version : versionIn (take (bytesFor x) (written (writingOf (length buf) x) x buf)) ≡ lowestFor x
   unfolding written pick
   written-version =
-      let l = length-record x shaped (right .0) (right .1) (right .2) in
-      rw wrote (ap versionIn (take-at (recordBytes x) _ (bytesFor x) l) ∙ version-back x shaped (right .0) (right .1) (right .2))
+      let l = length-record x shaped (right .0) (right .1) (right .2) (right .3) in
+      rw wrote (ap versionIn (take-at (recordBytes x) _ (bytesFor x) l) ∙ version-back x shaped (right .0) (right .1) (right .2) (right .3))
 
   -- the ship written and the ship read are equal in document 01's sense
   pub same-ship : Same x (clean x)
   same-ship =
-      let e : length (housesOf x) ≡ x .n = length-take-le (x .n) (x .houses) (omega (arith, shaped .eight, right .1)) in
+      let e : length (housesOf x) ≡ x .n = length-take-le (x .n) (x .houses) (omega (arith, shaped .eight, right .2)) in
       record {
         kind = refl;
         count = refl;
+        timber = refl;
         length = refl;
         depth = refl;
         moulded = refl;

@@ -1,5 +1,5 @@
--- 01, "Ship record, version 1", with 02 §5's version 2 and §6's version 3: bit-packed, most significant bit first, signed fields in two's complement.
-use Prim.Native.Nat.{ℕ, zero, suc, _+_, _-_, _*_, _%_, _≤_, _<_}
+-- 01, "Ship record, version 1", with 02 §5's version 2, §6's version 3 and §9's version 4: bit-packed, most significant bit first, signed fields in two's complement.
+use Prim.Native.Nat.{ℕ, zero, suc, _+_, _-_, _*_, _%_, _^_, _≤_, _<_}
 use mathlib.Core.Bool.{Bool, true, false, not, _||_}
 use mathlib.Core.List.{List, [], _∷_, _++_}
 use lib.ListN.{length, take, drop, getD, replicate}
@@ -16,23 +16,28 @@ use Rattle.ship.specs.Vessel as Vessel
 use Rattle.ship.specs.Vessel.{noHouse, fullBreadth, housesOf}
 use Rattle.record.specs.declared.Head.{Head}
 
--- the type has 2 bits in version 1, and 3 from version 2 on, which has one spare bit less
+-- the type has 2 bits in version 1, and 3 from version 2 on
 unfoldable pub kindBits : ℕ → ℕ
 kindBits version = pick (eqb version 1) 2 3
 
-unfoldable pub spareBits : ℕ → ℕ
-spareBits version = pick (eqb version 1) 6 5
+-- the timber flag has a bit in version 4. The versions before it have none for it, and a field of no bits is 0: they hold no flag
+unfoldable pub timberBits : ℕ → ℕ
+timberBits version = pick (leb version 3) 0 1
 
--- version, type, houses n, spare: 4, 2, 4, 6 bits in version 1, and 4, 3, 4, 5 from version 2 on
+-- eight bits less these are spare
+unfoldable pub spareBits : ℕ → ℕ
+spareBits version = 8 - (kindBits version + timberBits version)
+
+-- version, type, houses n, timber flag, spare: 4, 2, 4, 0, 6 bits in version 1; 4, 3, 4, 0, 5 in versions 2 and 3; 4, 3, 4, 1, 4 in version 4
 abbrev pub openingWidths : ℕ → List ℕ
-openingWidths version = 4 ∷ kindBits version ∷ 4 ∷ spareBits version ∷ []
+openingWidths version = 4 ∷ kindBits version ∷ 4 ∷ timberBits version ∷ spareBits version ∷ []
 
 -- then, in every version, L, D, M, Cb, Cwf; six ordinates of sheer; displacement, immersion
 abbrev pub headWidths : ℕ → List ℕ
 headWidths version =
     openingWidths version ++ (20 ∷ 16 ∷ 16 ∷ 14 ∷ 14 ∷ 14 ∷ 14 ∷ 14 ∷ 14 ∷ 14 ∷ 14 ∷ 20 ∷ 16 ∷ [])
 
--- a breadth has 16 bits in version 3. The versions before it have none for it, and a field of no bits is 0: they hold full breadth alone
+-- a breadth has 16 bits from version 3 on. The versions before it have none for it, and a field of no bits is 0: they hold full breadth alone
 unfoldable pub breadthBits : ℕ → ℕ
 breadthBits version = pick (leb version 2) 0 16
 
@@ -40,7 +45,7 @@ breadthBits version = pick (leb version 2) 0 16
 abbrev pub houseWidths : ℕ → List ℕ
 houseWidths version = 1 ∷ 1 ∷ 21 ∷ 21 ∷ 13 ∷ 7 ∷ breadthBits version ∷ breadthBits version ∷ []
 
--- so a house has 8 bytes, and 12 in version 3
+-- so a house has 8 bytes, and 12 from version 3 on
 unfoldable pub houseSize : ℕ → ℕ
 houseSize version = pick (leb version 2) 8 12
 
@@ -50,7 +55,7 @@ recordLength version n = 27 + houseSize version * n
 
 -- the last version; the last type, of all and of those that a version holds; the most houses
 abbrev pub lastVersion : ℕ
-lastVersion = 3
+lastVersion = 4
 
 abbrev pub lastType : ℕ
 lastType = kindCovers
@@ -127,7 +132,7 @@ pub record HousesFit (version : ℕ) (hs : List House) : Type 0 where
 -- its fields in the record's order
 abbrev pub headFields : Head → List ℕ
 headFields h =
-    h .version ∷ h .kind ∷ h .count ∷ h .spare
+    h .version ∷ h .kind ∷ h .count ∷ bit (h .timber) ∷ h .spare
     ∷ h .length .0 ∷ h .depth .0 ∷ h .moulded .0 ∷ h .block ∷ h .waterplane
     ∷ turn lift (sheerAt (h .sheer) 0) ∷ turn lift (sheerAt (h .sheer) 1) ∷ turn lift (sheerAt (h .sheer) 2)
     ∷ turn lift (sheerAt (h .sheer) 3) ∷ turn lift (sheerAt (h .sheer) 4) ∷ turn lift (sheerAt (h .sheer) 5)
@@ -139,17 +144,18 @@ headOf f = record {
   version = getD f 0 0;
   kind = getD f 1 0;
   count = getD f 2 0;
-  spare = getD f 3 0;
-  length = record { 0 = getD f 4 0 };
-  depth = record { 0 = getD f 5 0 };
-  moulded = record { 0 = getD f 6 0 };
-  block = getD f 7 0;
-  waterplane = getD f 8 0;
+  timber = eqb (getD f 3 0) 1;
+  spare = getD f 4 0;
+  length = record { 0 = getD f 5 0 };
+  depth = record { 0 = getD f 6 0 };
+  moulded = record { 0 = getD f 7 0 };
+  block = getD f 8 0;
+  waterplane = getD f 9 0;
   sheer =
-      ordinateIn (getD f 9 0) ∷ ordinateIn (getD f 10 0) ∷ ordinateIn (getD f 11 0)
-      ∷ ordinateIn (getD f 12 0) ∷ ordinateIn (getD f 13 0) ∷ ordinateIn (getD f 14 0) ∷ [];
-  displacement = getD f 15 0;
-  immersion = getD f 16 0;
+      ordinateIn (getD f 10 0) ∷ ordinateIn (getD f 11 0) ∷ ordinateIn (getD f 12 0)
+      ∷ ordinateIn (getD f 13 0) ∷ ordinateIn (getD f 14 0) ∷ ordinateIn (getD f 15 0) ∷ [];
+  displacement = getD f 16 0;
+  immersion = getD f 17 0;
 }
 
 unfoldable pub headBytes : Head → List ℕ
@@ -169,6 +175,7 @@ headFor version x = record {
   version = version;
   kind = x .kind;
   count = x .n;
+  timber = x .timber;
   spare = 0;
   length = x .length;
   depth = x .depth;
@@ -180,18 +187,19 @@ headFor version x = record {
   immersion = x .immersion;
 }
 
--- a version holds a ship if it is one, has the ship's type, and has bits for every number of its houses
+-- a version holds a ship if it is one, has the ship's type, and has bits for its timber flag and for every number of its houses
 abbrev pub Holds : ℕ → Ship → Type 0
-Holds version x = (1 ≤ version) × (version ≤ lastVersion) × (x .kind ≤ lastTypeIn version) × HousesFit version (housesOf x)
+Holds version x =
+    (1 ≤ version) × (version ≤ lastVersion) × (x .kind ≤ lastTypeIn version) × (bit (x .timber) < 2 ^ timberBits version) × HousesFit version (housesOf x)
 
 -- some house of a list has breadths
 unfoldable pub anySetIn : List House → Bool
 anySetIn [] = false
 anySetIn (h ∷ hs) = not (fullBreadth h) || anySetIn hs
 
--- the lowest version that holds a ship: its first n houses decide, and its type
+-- the lowest version that holds a ship: its timber flag decides, its first n houses, and its type
 unfoldable pub lowestFor : Ship → ℕ
-lowestFor x = pick (anySetIn (housesOf x)) 3 (pick (ltb (lastTypeIn 1) (x .kind)) 2 1)
+lowestFor x = pick (x .timber) 4 (pick (anySetIn (housesOf x)) 3 (pick (ltb (lastTypeIn 1) (x .kind)) 2 1))
 
 -- a ship's record is in the lowest version that holds it
 abbrev pub shipHead : Ship → Head
@@ -201,6 +209,7 @@ abbrev pub shipOf : Head → List House → Ship
 shipOf h hs = record {
   kind = h .kind;
   n = h .count;
+  timber = h .timber;
   length = h .length;
   depth = h .depth;
   moulded = h .moulded;

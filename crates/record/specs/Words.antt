@@ -9,7 +9,7 @@ use Rattle.record.specs.declared.Head.{Head}
 use Rattle.record.specs.Layout.{openingWidths, headFields, houseFields, ordinateIn}
 
 -- ---- the widths of the fields in each
--- version, type, houses n, spare, L, D, the first bits of M
+-- version, type, houses n, timber flag, spare, L, D, the first bits of M
 abbrev pub firstWidths : ℕ → List ℕ
 firstWidths version = openingWidths version ++ (20 ∷ 16 ∷ 12 ∷ [])
 
@@ -29,22 +29,22 @@ lastWidths = 14 ∷ 14 ∷ 20 ∷ 16 ∷ []
 abbrev pub eightWidths : List ℕ
 eightWidths = 1 ∷ 1 ∷ 21 ∷ 21 ∷ 13 ∷ 7 ∷ []
 
--- its breadths, in version 3; before it the word has no byte
+-- its breadths, from version 3 on; before it the word has no byte
 abbrev pub breadthWidths : List ℕ
 breadthWidths = 16 ∷ 16 ∷ []
 
 -- ---- and the fields themselves
 abbrev pub firstFields : Head → List ℕ
-firstFields h = take 6 (headFields h) ++ (h .moulded .0 / 2 ^ 4 ∷ [])
+firstFields h = take 7 (headFields h) ++ (h .moulded .0 / 2 ^ 4 ∷ [])
 
 abbrev pub fullnessFields : Head → List ℕ
 fullnessFields h = h .moulded .0 % 2 ^ 4 ∷ h .block ∷ h .waterplane ∷ []
 
 abbrev pub fourFields : Head → List ℕ
-fourFields h = take 4 (drop 9 (headFields h))
+fourFields h = take 4 (drop 10 (headFields h))
 
 abbrev pub lastFields : Head → List ℕ
-lastFields h = drop 13 (headFields h)
+lastFields h = drop 14 (headFields h)
 
 -- the ordinates in the two last words
 abbrev pub sheerIn : ℕ → ℕ → List Ordinate

@@ -1,4 +1,4 @@
-// The layout of the ship record, versions 1 to 3: a head, then the houses. Reader and writer take the width and the place of every field from here.
+// The layout of the ship record, versions 1 to 4: a head, then the houses. Reader and writer take the width and the place of every field from here.
 ghost use mathlib.Core.Path.{_≡_};
 ghost use Prim.Native.Nat.{_*_, _≤_, _<_};
 ghost use lib.Dec.{eqb};
@@ -33,7 +33,9 @@ pub const SECOND_VERSION: u64 = 2;
 
 pub const THIRD_VERSION: u64 = 3;
 
-pub const LAST_VERSION: u64 = THIRD_VERSION;
+pub const FOURTH_VERSION: u64 = 4;
+
+pub const LAST_VERSION: u64 = FOURTH_VERSION;
 
 pub const LAST_TYPE: u64 = kind::PORTABLE_COVERS;
 
@@ -44,6 +46,7 @@ pub struct Head {
     pub version: u64,
     pub kind: u64,
     pub count: u64,
+    pub timber: bool,
     pub spare: u64,
     // L, D and M.
     pub length: Span,
@@ -117,6 +120,9 @@ pub fn lowest_for(x: Ship) -> u64
     requires { ⌜ x .n ≤ 8 ⌝ }
     ensures { λ r. ⌜ r ≡ lowestFor x ⌝ }
 {
+    if x.timber {
+        return FOURTH_VERSION;
+    }
     let houses = x.houses;
     if any_set_in(houses, x.n) {
         return THIRD_VERSION;

@@ -1,7 +1,7 @@
 // How many values a field can have: two to the power of its bits.
 ghost use mathlib.Core.Path.{_≡_};
 ghost use Prim.Native.Nat.{_^_, _≤_, _<_};
-ghost use Rattle.record.specs.Layout.{kindBits, spareBits};
+ghost use Rattle.record.specs.Layout.{kindBits, timberBits, spareBits};
 use crate::width;
 
 // ---- the head
@@ -43,6 +43,12 @@ pub fn kind(version: u64) -> u64
     ensures { λ r. ⌜ (r ≡ 2 ^ kindBits version) × (0 < r) × (r ≤ 8) ⌝ }
 {
     1 << width::kind(version)
+}
+
+pub fn timber(version: u64) -> u64
+    ensures { λ r. ⌜ (r ≡ 2 ^ timberBits version) × (0 < r) × (r ≤ 2) ⌝ }
+{
+    1 << width::timber(version)
 }
 
 pub fn spare(version: u64) -> u64

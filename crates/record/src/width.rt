@@ -1,7 +1,8 @@
 // The tables of the record in documents 01 and 02: how many bits each field has.
 ghost use mathlib.Core.Path.{_≡_};
 ghost use Prim.Native.Nat.{_≤_};
-ghost use Rattle.record.specs.Layout.{kindBits, spareBits};
+ghost use Rattle.record.specs.Layout.{kindBits, timberBits, spareBits};
+use crate::THIRD_VERSION;
 use crate::by_version;
 
 // ---- the head
@@ -14,9 +15,11 @@ pub const KIND: u64 = 3;
 
 pub const COUNT: u64 = 4;
 
-pub const SPARE_IN_1: u64 = 6;
+// From version 4 on.
+pub const TIMBER: u64 = 1;
 
-pub const SPARE: u64 = 5;
+// The type, the timber flag and what is spare have together, in every version.
+pub const KIND_TO_SPARE: u64 = 8;
 
 pub const LENGTH: u64 = 20;
 
@@ -56,8 +59,14 @@ pub fn kind(version: u64) -> u64
     by_version(version, KIND_IN_1, KIND)
 }
 
+pub fn timber(version: u64) -> u64
+    ensures { λ r. ⌜ (r ≡ timberBits version) × (r ≤ 1) ⌝ }
+{
+    if version <= THIRD_VERSION { 0 } else { TIMBER }
+}
+
 pub fn spare(version: u64) -> u64
     ensures { λ r. ⌜ (r ≡ spareBits version) × (r ≤ 6) ⌝ }
 {
-    by_version(version, SPARE_IN_1, SPARE)
+    KIND_TO_SPARE - (kind(version) + timber(version))
 }

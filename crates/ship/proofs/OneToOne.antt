@@ -5,7 +5,7 @@ use Rattle.ship.specs.declared.refusal.Refusal.{Refusal}
 use mathlib.Core.List.{[], _∷_}
 use mathlib.Core.Path.{_≡_, refl, sym, ap, _∙_}
 use lib.ListN.{getD}
-use Rattle.ship.specs.declared.refusal.Refusal.the-variants.{ShortRecord, Version, ShipType, HouseCount, RecordLength, SpareBit, FieldRange, HalfCertified, HouseExtent, Quarterdeck, Overlap, NoDraught, FreshAllowance, QuestionRange, NoRoomForPoop, NoLengthFits, ShortBuffer, OutOfOrder, LengthForType, Breadths}
+use Rattle.ship.specs.declared.refusal.Refusal.the-variants.{ShortRecord, Version, ShipType, HouseCount, RecordLength, SpareBit, FieldRange, HalfCertified, HouseExtent, Quarterdeck, Overlap, NoDraught, FreshAllowance, QuestionRange, NoRoomForPoop, NoLengthFits, ShortBuffer, OutOfOrder, LengthForType, Breadths, TimberForA}
 use Rattle.ship.specs.declared.refusal.Verdict.{Verdict}
 use Rattle.ship.specs.declared.refusal.Verdict.the-variants.{Accepted, Refused}
 use Rattle.ship.specs.Refusals.{Paper, paper, numberOf}
@@ -16,7 +16,7 @@ verdictOf p =
     getD
     (Accepted ∷ Refused ShortRecord ∷ Refused Version ∷ Refused ShipType ∷ Refused HouseCount ∷ Refused RecordLength ∷ Refused SpareBit ∷ Refused (FieldRange (p .place)) ∷ Refused HalfCertified
     ∷ Refused (HouseExtent (p .place)) ∷ Refused (Quarterdeck (p .place)) ∷ Refused (Overlap (p .place) (record { 0 = p .overlap }))
-    ∷ Refused NoDraught ∷ Refused FreshAllowance ∷ Refused QuestionRange ∷ Refused NoRoomForPoop ∷ Refused NoLengthFits ∷ Refused ShortBuffer ∷ Refused (OutOfOrder (p .place)) ∷ Accepted ∷ Accepted ∷ Accepted ∷ Refused LengthForType ∷ Refused (Breadths (p .place)) ∷ [])
+    ∷ Refused NoDraught ∷ Refused FreshAllowance ∷ Refused QuestionRange ∷ Refused NoRoomForPoop ∷ Refused NoLengthFits ∷ Refused ShortBuffer ∷ Refused (OutOfOrder (p .place)) ∷ Accepted ∷ Accepted ∷ Accepted ∷ Refused LengthForType ∷ Refused (Breadths (p .place)) ∷ Refused TimberForA ∷ [])
     (p .number)
     Accepted
 
@@ -43,6 +43,7 @@ back (Refused ShortBuffer) = refl
 back (Refused (OutOfOrder k)) = refl
 back (Refused LengthForType) = refl
 back (Refused (Breadths k)) = refl
+back (Refused TimberForA) = refl
 
 pub one-verdict : (v w : Verdict) → paper v ≡ paper w → v ≡ w
 one-verdict v w e = sym (back v) ∙ ap verdictOf e ∙ back w
@@ -69,3 +70,4 @@ number-above-0 ShortBuffer = omega arith
 number-above-0 (OutOfOrder k) = omega arith
 number-above-0 LengthForType = omega arith
 number-above-0 (Breadths k) = omega arith
+number-above-0 TimberForA = omega arith

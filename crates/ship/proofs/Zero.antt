@@ -22,6 +22,7 @@ pub record ZeroHouse (h : House) : Type 0 where
 pub record Zero (x : Ship) : Type 0 where
   pub kind : x .kind ≡ 0
   pub count : x .n ≡ 0
+  pub timber : x .timber ≡ false
   pub length : x .length .0 ≡ 0
   pub depth : x .depth .0 ≡ 0
   pub moulded : x .moulded .0 ≡ 0
@@ -44,6 +45,7 @@ zero-ship =
     record {
       kind = refl;
       count = refl;
+      timber = refl;
       length = refl;
       depth = refl;
       moulded = refl;

@@ -10,7 +10,7 @@ use Rattle.ship.specs.declared.House.{House}
 use Rattle.ship.specs.declared.Ship.{Ship}
 use Rattle.ship.specs.declared.rule.Rule.{Rule}
 use Rattle.ship.specs.declared.rule.Rule.the-variants.{EndsAndHeight, SetInSides, RaisedQuarterdeck, Follows}
-use Rattle.ship.specs.Kinds.{kindB60, kindB100, kindCovers}
+use Rattle.ship.specs.Kinds.{kindCovers, isReduced}
 use Rattle.ship.specs.Vessel.{housesOf, houseAt}
 use Rattle.ship.specs.Refusals.{Line, refused, overlapping}
 
@@ -47,7 +47,7 @@ fieldOut fields = firstFrom (outside fields) 0 13
 
 -- 22: a type B-60 or B-100 ship of 100 m or less (27(8)), or one with portable covers beyond the 200 m of its table (27(6))
 abbrev pub reducedShort : ℕ → ℕ → Bool
-reducedShort kind l = (eqb kind kindB60 || eqb kind kindB100) && leb l 100000
+reducedShort kind l = isReduced kind && leb l 100000
 
 abbrev pub coversLong : ℕ → ℕ → Bool
 coversLong kind l = eqb kind kindCovers && ltb 200000 l

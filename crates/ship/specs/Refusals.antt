@@ -5,7 +5,7 @@ use mathlib.Core.List.{List, [], _∷_}
 use Rattle.whole.specs.Pick.{pick}
 use Rattle.ship.specs.declared.refusal.Paper as Declared
 use Rattle.ship.specs.declared.refusal.Refusal.{Refusal}
-use Rattle.ship.specs.declared.refusal.Refusal.the-variants.{ShortRecord, Version, ShipType, HouseCount, RecordLength, SpareBit, FieldRange, HalfCertified, HouseExtent, Quarterdeck, Overlap, NoDraught, FreshAllowance, QuestionRange, NoRoomForPoop, NoLengthFits, ShortBuffer, OutOfOrder, LengthForType, Breadths}
+use Rattle.ship.specs.declared.refusal.Refusal.the-variants.{ShortRecord, Version, ShipType, HouseCount, RecordLength, SpareBit, FieldRange, HalfCertified, HouseExtent, Quarterdeck, Overlap, NoDraught, FreshAllowance, QuestionRange, NoRoomForPoop, NoLengthFits, ShortBuffer, OutOfOrder, LengthForType, Breadths, TimberForA}
 use Rattle.ship.specs.declared.refusal.Verdict.{Verdict}
 use Rattle.ship.specs.declared.refusal.Verdict.the-variants.{Accepted, Refused}
 
@@ -46,6 +46,7 @@ refusedAs ShortBuffer = refused 17 0
 refusedAs (OutOfOrder k) = refused 18 k
 refusedAs LengthForType = refused 22 0
 refusedAs (Breadths k) = refused 23 k
+refusedAs TimberForA = refused 24 0
 
 abbrev pub numberOf : Refusal → ℕ
 numberOf r = refusedAs r .number

@@ -26,6 +26,7 @@ abbrev pub noShip : Ship
 noShip = record {
   kind = 0;
   n = 0;
+  timber = false;
   length = record { 0 = 0 };
   depth = record { 0 = 0 };
   moulded = record { 0 = 0 };
@@ -58,6 +59,7 @@ abbrev pub clean : Ship → Ship
 clean x = record {
   kind = x .kind;
   n = x .n;
+  timber = x .timber;
   length = x .length;
   depth = x .depth;
   moulded = x .moulded;
@@ -73,6 +75,7 @@ clean x = record {
 pub record Same (x y : Ship) : Type 0 where
   pub kind : x .kind ≡ y .kind
   pub count : x .n ≡ y .n
+  pub timber : x .timber ≡ y .timber
   pub length : x .length .0 ≡ y .length .0
   pub depth : x .depth .0 ≡ y .depth .0
   pub moulded : x .moulded .0 ≡ y .moulded .0

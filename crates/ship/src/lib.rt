@@ -28,6 +28,8 @@ pub struct Ship {
     // Its type, one of those in kind.rt.
     pub kind: u64,
     pub n: usize,
+    // Timber freeboards are asked for.
+    pub timber: bool,
     // L, the depth D for freeboard, and the least moulded depth M.
     pub length: Span,
     pub depth: Span,
@@ -76,6 +78,7 @@ pub fn no_ship() -> Ship
     Ship {
         kind: 0,
         n: 0,
+        timber: false,
         length: Span(0),
         depth: Span(0),
         moulded: Span(0),

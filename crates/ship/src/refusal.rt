@@ -27,6 +27,7 @@ pub enum Refusal {
     OutOfOrder(usize),
     LengthForType,
     Breadths(usize),
+    TimberForA,
 }
 
 pub enum Verdict {
@@ -95,6 +96,7 @@ pub fn told(r: Refusal) -> Paper
         Refusal::OutOfOrder(k) => refused(18, k),
         Refusal::LengthForType => refused(22, 0),
         Refusal::Breadths(k) => refused(23, k),
+        Refusal::TimberForA => refused(24, 0),
     }
 }
 

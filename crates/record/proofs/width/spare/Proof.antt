@@ -7,4 +7,13 @@ use Rattle.record.proofs.width.spare.Tie as tie
 
 pub spare-spec : {M : Type 1} → statement M
 unfolding spareBits
-spare-spec = tie.close (tie.spec (λ c κs. search needs) (λ c. (c .by-version .ensures, omega (arith, c .by-version .ensures, eight-bits (c .before .args .version) .2))))
+spare-spec =
+    tie.close
+    (tie.spec
+    (λ c κs. search needs)
+    (λ c κs. search needs)
+    (λ c. search needs)
+    (λ c. search needs)
+    (λ c.
+    let k = c .before in
+    omega (arith, c .timber .ensures, k .kind .ensures, eight-bits (k .before .args .version))))

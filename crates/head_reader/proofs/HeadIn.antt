@@ -3,25 +3,27 @@ use Prim.Native.Nat.{ℕ, _+_, _*_, _/_, _%_, _^_, _≤_}
 use mathlib.Core.List.{List, [], _∷_, _++_}
 use mathlib.Core.Path.{_≡_, refl, sym, ap, _∙_}
 use lib.ListN.{length, take, drop, getD}
+use lib.Dec.{eqb}
 use native.Mathlib.Omega.{arith}
 use Rattle.bits.specs.Fields.{number, unpack, piece, Bytes}
 use Rattle.bits.proofs.Joined.{unpack-parts}
 use Rattle.units.specs.declared.Ordinate.{Ordinate}
 use Rattle.units.specs.Datum.{lift}
 use Rattle.record.specs.declared.Head.{Head}
-use Rattle.record.specs.Layout.{kindBits, spareBits, headWidths, headOf, versionIn, headIn, ordinateIn}
+use Rattle.record.specs.Layout.{kindBits, timberBits, spareBits, headWidths, headOf, versionIn, headIn, ordinateIn}
 use Rattle.record.proofs.Complement.{turn-low}
 use Rattle.record.proofs.Parts.{eight-bits, version-first}
 use Rattle.record.specs.Words.{firstWidths, fullnessWidths, fourWidths, lastWidths, sheerIn}
 use Rattle.bits.proofs.Cut.{piece-cut}
 
--- the head that four words hold, as the reader takes them apart, with its ordinates of sheer: how many bits stand after the type and after n, and how many values
--- the type and the spare can have
-abbrev pub headCut : ℕ → ℕ → ℕ → ℕ → ℕ → ℕ → ℕ → List Ordinate → Head
-headCut after-kind kinds after-count spares a b d o = record {
+-- the head that four words hold, as the reader takes them apart, with its ordinates of sheer: how many bits stand after the type, after n and after the timber
+-- flag, and how many values the type, the flag and the spare can have
+abbrev pub headCut : ℕ → ℕ → ℕ → ℕ → ℕ → ℕ → ℕ → ℕ → ℕ → List Ordinate → Head
+headCut after-kind kinds after-count after-timber flags spares a b d o = record {
   version = a / 2 ^ 60 % 2 ^ 4;
   kind = a / 2 ^ after-kind % kinds;
   count = a / 2 ^ after-count % 2 ^ 4;
+  timber = eqb (a / 2 ^ after-timber % flags) 1;
   spare = a / 2 ^ 48 % spares;
   length = record { 0 = a / 2 ^ 28 % 2 ^ 20 };
   depth = record { 0 = a / 2 ^ 12 % 2 ^ 16 };
@@ -35,7 +37,9 @@ headCut after-kind kinds after-count spares a b d o = record {
 
 -- as a version has them
 abbrev pub headOfWords : ℕ → ℕ → ℕ → ℕ → List Ordinate → Head
-headOfWords version a b d o = headCut (52 + spareBits version) (2 ^ kindBits version) (48 + spareBits version) (2 ^ spareBits version) a b d o
+headOfWords version a b d o =
+    headCut (52 + spareBits version + timberBits version) (2 ^ kindBits version) (48 + spareBits version + timberBits version) (48 + spareBits version)
+    (2 ^ timberBits version) (2 ^ spareBits version) a b d o
 
 -- all fields, M in two
 abbrev cut : ℕ → List ℕ
@@ -43,32 +47,34 @@ cut version = firstWidths version ++ fullnessWidths ++ fourWidths ++ lastWidths
 
 -- and M whole again
 abbrev joined : List ℕ → List ℕ
-joined f = take 6 f ++ ((getD f 6 0 * 2 ^ 4 + getD f 7 0) ∷ drop 8 f)
+joined f = take 7 f ++ ((getD f 7 0 * 2 ^ 4 + getD f 8 0) ∷ drop 9 f)
 
 join-cut : (version n : ℕ) → unpack (headWidths version) n ≡ joined (unpack (cut version) n)
 unfolding unpack
-join-cut version n = ap (λ (m : ℕ). take 6 (unpack (headWidths version) n) ++ (m ∷ unpack (drop 7 (headWidths version)) n)) (piece-cut n 148 12 4)
+join-cut version n = ap (λ (m : ℕ). take 7 (unpack (headWidths version) n) ++ (m ∷ unpack (drop 8 (headWidths version)) n)) (piece-cut n 148 12 4)
 
 -- an ordinate from a word, and from its piece
 ordinate-piece : (n a : ℕ) → ordinateIn (piece n a 14) ≡ ordinateIn (n / 2 ^ a)
 unfolding piece
 ordinate-piece n a = λ i. record { 0 = turn-low lift (n / 2 ^ a) i }
 
--- what stands after the version, and after the type and n
-after-version : (version : ℕ) → kindBits version + (4 + (spareBits version + 48)) ≡ 60
+-- what stands after the version
+after-version : (version : ℕ) → kindBits version + (4 + (timberBits version + (spareBits version + 48))) ≡ 60
 after-version version = omega (arith, eight-bits version)
 
 pieces : (version a b c d : ℕ)
     → headOf (joined (unpack (firstWidths version) a ++ unpack fullnessWidths b ++ unpack fourWidths c ++ unpack lastWidths d)) ≡ headOfWords version a b d (sheerIn c d)
 unfolding unpack piece
 pieces version a b c d =
-    let after-kind : 4 + (spareBits version + 48) ≡ 52 + spareBits version = omega arith in
-    let after-count : spareBits version + 48 ≡ 48 + spareBits version = omega arith in
+    let after-kind : 4 + (timberBits version + (spareBits version + 48)) ≡ 52 + spareBits version + timberBits version = omega arith in
+    let after-count : timberBits version + (spareBits version + 48) ≡ 48 + spareBits version + timberBits version = omega arith in
+    let after-timber : spareBits version + 48 ≡ 48 + spareBits version = omega arith in
     let whole : (n : ℕ) → n / 2 ^ 0 ≡ n = λ n. omega arith in
     λ i. record {
       version = a / 2 ^ after-version version i % 2 ^ 4;
       kind = a / 2 ^ after-kind i % 2 ^ kindBits version;
       count = a / 2 ^ after-count i % 2 ^ 4;
+      timber = eqb (a / 2 ^ after-timber i % 2 ^ timberBits version) 1;
       spare = a / 2 ^ 48 % 2 ^ spareBits version;
       length = record { 0 = a / 2 ^ 28 % 2 ^ 20 };
       depth = record { 0 = a / 2 ^ 12 % 2 ^ 16 };

@@ -10,6 +10,7 @@ ghost use Rattle.record.specs.Reading.{headLines};
 use record::Head;
 use record::after;
 use record::range;
+use ship::kind;
 use ship::refusal::Refusal;
 use ship::refusal::Verdict;
 use units::Ordinate;
@@ -47,6 +48,7 @@ pub fn read(s: &[u8]) -> Head
         version,
         kind: (first >> after::kind(version)) % range::kind(version),
         count: (first >> after::count(version)) % range::COUNT,
+        timber: (first >> after::timber(version)) % range::timber(version) == 1,
         spare: (first >> after::SPARE) % range::spare(version),
         length: Span((first >> after::LENGTH) % range::LENGTH),
         depth: Span((first >> after::DEPTH) % range::DEPTH),
@@ -59,7 +61,7 @@ pub fn read(s: &[u8]) -> Head
     }
 }
 
-// Checks 2 to 5 on the head of a record of so many bytes.
+// Checks 2 to 5, and 24, on the head of a record of so many bytes.
 pub fn check_head(h: Head, bytes: usize) -> Verdict
     ensures { λ v. ⌜ paper v ≡ first (headLines h bytes) ⌝ }
 {
@@ -68,6 +70,9 @@ pub fn check_head(h: Head, bytes: usize) -> Verdict
     }
     if h.kind > record::last_type_in(h.version) {
         return Verdict::Refused(Refusal::ShipType);
+    }
+    if kind::timber_for_a(h.kind, h.timber) {
+        return Verdict::Refused(Refusal::TimberForA);
     }
     if h.count > record::MOST_HOUSES {
         return Verdict::Refused(Refusal::HouseCount);

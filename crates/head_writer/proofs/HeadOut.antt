@@ -5,15 +5,15 @@ use mathlib.Core.Path.{_≡_, refl, sym, ap, ap₂, subst, _∙_}
 use lib.ListN.{length, take, drop, length-append, length-drop}
 use lib.Seq.{length-take-le}
 use native.Mathlib.Omega.{arith}
-use lib.Dec.{eqb}
-use Rattle.whole.proofs.Pick.{by-both}
+use lib.Dec.{eqb, leb}
+use Rattle.whole.proofs.Pick.{by-cases}
 use Rattle.whole.proofs.Divide.{mul-most}
 use Rattle.bits.specs.Fields.{total, pack, bytes, Fit}
 use Rattle.bits.proofs.Radix.{pack-append, pack-lt, length-bytes}
 use Rattle.bits.proofs.Fill.{two-parts}
 use Rattle.bits.proofs.Joined.{bytes-pack}
 use Rattle.record.specs.declared.Head.{Head}
-use Rattle.record.specs.Layout.{kindBits, spareBits, openingWidths, headWidths, headFields, headBytes}
+use Rattle.record.specs.Layout.{kindBits, timberBits, spareBits, bit, openingWidths, headWidths, headFields, headBytes}
 use Rattle.record.specs.Words.{firstWidths, fullnessWidths, fourWidths, lastWidths, firstFields, fullnessFields, fourFields, lastFields}
 use Rattle.record.proofs.Parts.{eight-bits}
 use Rattle.bits.proofs.Cut.{value-cut}
@@ -32,21 +32,30 @@ two-halves d A B C D {p} {q} h ep eq =
     two-parts d p q 12 15 lp h ∙ ap₂ _++_ p′ (eq ∙ ap (λ (k : ℕ). bytes 7 C ++ bytes (k - 7) D) lq)
 
 -- ---- the opening, by the version
-opening-same : (version v k n s : ℕ) → ((v * 2 ^ kindBits version + k) * 16 + n) * 2 ^ spareBits version + s ≡ pack (openingWidths version) (v ∷ k ∷ n ∷ s ∷ [])
-unfolding kindBits spareBits pack
-opening-same version v k n s =
-    by-both (λ (a b : ℕ). ((v * 2 ^ a + k) * 16 + n) * 2 ^ b + s ≡ pack (4 ∷ a ∷ 4 ∷ b ∷ []) (v ∷ k ∷ n ∷ s ∷ [])) (eqb version 1) 2 3 6 5 (λ t. omega arith) (λ t. omega arith)
+-- with a bits for the type and t for the flag
+abbrev Opens : ℕ → ℕ → ℕ → ℕ → ℕ → ℕ → ℕ → Type 0
+Opens v k n f s a t =
+    (((v * 2 ^ a + k) * 16 + n) * 2 ^ t + f) * 2 ^ (8 - (a + t)) + s ≡ pack (4 ∷ a ∷ 4 ∷ t ∷ (8 - (a + t)) ∷ []) (v ∷ k ∷ n ∷ f ∷ s ∷ [])
 
--- as the code multiplies, with the ranges of type and spare
-pub opening-code : (h : Head) {kinds spares : ℕ} → kinds ≡ 2 ^ kindBits (h .version) → spares ≡ 2 ^ spareBits (h .version)
-    → ((h .version * kinds + h .kind) * 16 + h .count) * spares + h .spare ≡ pack (openingWidths (h .version)) (take 4 (headFields h))
-opening-code h p q = rw (p, q) (opening-same (h .version) (h .version) (h .kind) (h .count) (h .spare))
+opening-same : (version v k n f s : ℕ) → Opens v k n f s (kindBits version) (timberBits version)
+unfolding kindBits timberBits pack
+opening-same version v k n f s =
+    let flagged : (a : ℕ) → Opens v k n f s a 0 → Opens v k n f s a 1 → Opens v k n f s a (timberBits version) =
+    λ a no yes. by-cases (Opens v k n f s a) (leb version 3) 0 1 (λ e. no) (λ e. yes) in
+    by-cases (λ (a : ℕ). Opens v k n f s a (timberBits version)) (eqb version 1) 2 3 (λ e. flagged 2 (omega arith) (omega arith)) (λ e. flagged 3 (omega arith) (omega arith))
 
-pub opening-lt : (h : Head) → Fit (headWidths (h .version)) (headFields h) → pack (openingWidths (h .version)) (take 4 (headFields h)) < 65536
+-- as the code multiplies, with the ranges of type, flag and spare
+pub opening-code : (h : Head) {kinds flags spares flag : ℕ}
+    → kinds ≡ 2 ^ kindBits (h .version) → flags ≡ 2 ^ timberBits (h .version) → spares ≡ 2 ^ spareBits (h .version) → flag ≡ bit (h .timber)
+    → (((h .version * kinds + h .kind) * 16 + h .count) * flags + flag) * spares + h .spare ≡ pack (openingWidths (h .version)) (take 5 (headFields h))
+unfolding spareBits
+opening-code h p q r b = rw (p, q, r, b) (opening-same (h .version) (h .version) (h .kind) (h .count) (bit (h .timber)) (h .spare))
+
+pub opening-lt : (h : Head) → Fit (headWidths (h .version)) (headFields h) → pack (openingWidths (h .version)) (take 5 (headFields h)) < 65536
 opening-lt h f =
     let e : total (openingWidths (h .version)) ≡ 16 = omega (arith, eight-bits (h .version)) in
-    subst (λ (k : ℕ). pack (openingWidths (h .version)) (take 4 (headFields h)) < 2 ^ k) e
-    (pack-lt (openingWidths (h .version)) (take 4 (headFields h)) (f .0, (f .1 .0, (f .1 .1 .0, (f .1 .1 .1 .0, tt)))))
+    subst (λ (k : ℕ). pack (openingWidths (h .version)) (take 5 (headFields h)) < 2 ^ k) e
+    (pack-lt (openingWidths (h .version)) (take 5 (headFields h)) (f .0, (f .1 .0, (f .1 .1 .0, (f .1 .1 .1 .0, (f .1 .1 .1 .1 .0, tt))))))
 
 -- none of its steps overflows
 pub opening-small : (v k kinds : ℕ) → v < 16 → k < kinds → kinds ≤ 8 → v * kinds + k ≤ 127
@@ -57,12 +66,12 @@ tail-code : (a b c : ℕ) → pack (20 ∷ 16 ∷ 12 ∷ []) (a ∷ b ∷ c ∷ 
 unfolding pack
 tail-code a b c = omega arith
 
-pub first-code : (h : Head) {word : ℕ} → word ≡ pack (openingWidths (h .version)) (take 4 (headFields h))
+pub first-code : (h : Head) {word : ℕ} → word ≡ pack (openingWidths (h .version)) (take 5 (headFields h))
     → ((word * 1048576 + h .length .0) * 65536 + h .depth .0) * 4096 + h .moulded .0 / 2 ^ 4 ≡ pack (firstWidths (h .version)) (firstFields h)
 first-code h {word} e =
     let us : List ℕ = 20 ∷ 16 ∷ 12 ∷ [] in
     let xs : List ℕ = h .length .0 ∷ h .depth .0 ∷ h .moulded .0 / 2 ^ 4 ∷ [] in
-    let first = pack-append (openingWidths (h .version)) us (take 4 (headFields h)) xs refl in
+    let first = pack-append (openingWidths (h .version)) us (take 5 (headFields h)) xs refl in
     omega (arith, first, tail-code (h .length .0) (h .depth .0) (h .moulded .0 / 2 ^ 4))
 
 -- M written whole, and cut
@@ -73,10 +82,10 @@ pack-cut us vs v = value-cut v 4 (total us) (pack us vs)
 module _ (h : Head) (f : Fit (headWidths (h .version)) (headFields h)) where
   cut : pack (headWidths (h .version)) (headFields h) ≡ pack ((firstWidths (h .version) ++ fullnessWidths) ++ (fourWidths ++ lastWidths)) ((firstFields h ++ fullnessFields h) ++ (fourFields h ++ lastFields h))
   cut =
-      let ws = take 6 (headWidths (h .version)) in
-      let us = drop 7 (headWidths (h .version)) in
-      let vs = take 6 (headFields h) in
-      let xs = drop 7 (headFields h) in
+      let ws = take 7 (headWidths (h .version)) in
+      let us = drop 8 (headWidths (h .version)) in
+      let vs = take 7 (headFields h) in
+      let xs = drop 8 (headFields h) in
       let m = h .moulded .0 in
       pack-append ws (16 ∷ us) vs (m ∷ xs) refl
       ∙ ap (λ (n : ℕ). pack ws vs * 2 ^ total (16 ∷ us) + n) (pack-cut us xs m)

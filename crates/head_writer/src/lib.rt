@@ -8,13 +8,14 @@ ghost use Rattle.record.specs.Words.{firstWidths, fullnessWidths, fourWidths, l
 use record::Head;
 use record::range;
 
-// Version, type, houses n and spare, in the bits that the version has for each: 16 together.
+// Version, type, houses n, timber flag and spare, in the bits that the version has for each: 16 together.
 fn opening(h: Head) -> u64
     requires { ⌜ Fit (headWidths (h .version)) (headFields h) ⌝ }
-    ensures { λ r. ⌜ (r ≡ pack (openingWidths (h .version)) (take 4 (headFields h))) × (r < 65536) ⌝ }
+    ensures { λ r. ⌜ (r ≡ pack (openingWidths (h .version)) (take 5 (headFields h))) × (r < 65536) ⌝ }
 {
     let word = h.version * range::kind(h.version) + h.kind;
     let word = word * range::COUNT + h.count;
+    let word = word * range::timber(h.version) + record::bit_of(h.timber);
     word * range::spare(h.version) + h.spare
 }
 

@@ -29,6 +29,6 @@ last-word-spec =
     let s = a .before .before .before in
     let f = fit-each (headWidths (s .args .h .version)) (headFields (s .args .h)) (s .pre) in
     fits-under w64 _ (2 ^ 64)
-    (digits-lt {m = 2 ^ 48} {c = 65536} (digits-lt {m = 2 ^ 28} {c = 1048576} (digits-lt {m = 16384} {c = 16384} (a .ordinate-field .ensures .1) (b .ordinate-field2 .ensures .1)) (f 15)) (f 16))
+    (digits-lt {m = 2 ^ 48} {c = 65536} (digits-lt {m = 2 ^ 28} {c = 1048576} (digits-lt {m = 16384} {c = 16384} (a .ordinate-field .ensures .1) (b .ordinate-field2 .ensures .1)) (f 16)) (f 17))
     tt)
     (λ c. omega arith))

@@ -19,7 +19,7 @@ use Rattle.record.specs.Reading.{sparesIn, headLines, spareLine, frameLines}
 pub headed : (h : Head) (l : ℕ) → first (headLines h l) ≡ accepted → (h .count ≤ 8) × (l ≡ recordLength (h .version) (h .count))
 headed h l e =
     let p = all-pass (headLines h l) (omega arith) (ap (λ (v : Paper). v .number) e) in
-    (ltb-false 8 (h .count) (p .1 .1 .0), eqb-true l (recordLength (h .version) (h .count)) (not-false (eqb l (recordLength (h .version) (h .count))) (p .1 .1 .1 .0)))
+    (ltb-false 8 (h .count) (p .1 .1 .1 .0), eqb-true l (recordLength (h .version) (h .count)) (not-false (eqb l (recordLength (h .version) (h .count))) (p .1 .1 .1 .1 .0)))
 
 pub frame-short : (s : List ℕ) → length s < 27 → first (frameLines s) ≡ refused 1 0
 unfolding first pick

@@ -33,6 +33,7 @@ fn ship_of(h: Head, houses: [House; 8]) -> Ship
     Ship {
         kind: h.kind,
         n: h.count as usize,
+        timber: h.timber,
         length,
         depth,
         moulded,
@@ -91,7 +92,7 @@ fn read_ship(s: &[u8], h: Head) -> Answer
     judge(ship_of(h, places))
 }
 
-// Reads a record of any version: refusals 1 to 11, 18, 22 and 23, in the table's order.
+// Reads a record of any version: refusals 1 to 11, 18 and 22 to 24, in the table's order.
 pub fn read(s: &[u8]) -> Answer
     ensures { λ r. ⌜ shown r ≡ readingIn (now (s .entry)) ⌝ }
 {

@@ -11,6 +11,7 @@ ghost use Rattle.record.specs.Writing.{bytesFor, writingOf, written};
 use record::HEAD_BYTES;
 use record::Head;
 use ship::Ship;
+use ship::kind;
 use ship::refusal;
 use ship::refusal::Refusal;
 use ship::refusal::Verdict;
@@ -27,6 +28,7 @@ fn head_of(x: Ship, version: u64) -> Head
         version,
         kind: x.kind,
         count: x.n as u64,
+        timber: x.timber,
         spare: 0,
         length,
         depth,
@@ -53,12 +55,15 @@ fn put_record(buf: &mut [u8], x: Ship)
     house_writer::put_houses(buf, version, houses, x.n);
 }
 
-// The verdict on writing a ship into `room` bytes: refusals 3, 4, 7 to 11, 18, 22, 23 and 17, in the table's order.
+// The verdict on writing a ship into `room` bytes: refusals 3, 24, 4, 7 to 11, 18, 22, 23 and 17, in the table's order.
 fn verdict(x: Ship, room: usize) -> Verdict
     ensures { λ v. ⌜ paper v ≡ writingOf room x ⌝ }
 {
     if x.kind > record::LAST_TYPE {
         return Verdict::Refused(Refusal::ShipType);
+    }
+    if kind::timber_for_a(x.kind, x.timber) {
+        return Verdict::Refused(Refusal::TimberForA);
     }
     if x.n as u64 > record::MOST_HOUSES {
         return Verdict::Refused(Refusal::HouseCount);

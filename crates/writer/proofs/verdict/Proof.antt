@@ -20,11 +20,18 @@ verdict-spec =
     (λ c.
     let h : 4 < c .before .before .args .x .kind = omega arith in
     simp lt-ltb)
+    (λ c κs. search needs)
     (λ c.
-    let x = c .before .before .before .args .x in
+    let f = c .before in
+    let x = f .before .before .before .args .x in
+    let h : x .kind ≤ 4 = omega arith in
+    rw (le-ltb 4 (x .kind) h, sym (f .timber-for-a .ensures) ∙ c .if2 .taken) refl)
+    (λ c.
+    let f = c .before .before in
+    let x = f .before .before .before .args .x in
     let h : x .kind ≤ 4 = omega arith in
     let k : 8 < x .n = omega arith in
-    simp (le-ltb, lt-ltb))
+    rw (le-ltb 4 (x .kind) h, sym (f .timber-for-a .ensures) ∙ c .before .if2 .left, lt-ltb 8 (x .n) k) refl)
     (λ c κs. search needs)
     (λ c κs. search needs)
     (λ c κs. search needs)
@@ -35,7 +42,9 @@ verdict-spec =
     let l = o .before in
     let r = l .before in
     let v = r .before in
-    let a = v .before .before .before .before .args in
+    let t = v .before .before in
+    let f = t .before in
+    let a = f .before .before .before .args in
     let bytes : r .record-length .result ≡ bytesFor (a .x) = r .record-length .ensures .0 ∙ ap (λ (w : ℕ). recordLength w (a .x .n)) (v .lowest-for .ensures) in
     c .after .ensures
-    ∙ rw (o .of-ship .ensures, l .line .ensures, bytes) (sym (writing-judged (a .room) (a .x) (omega arith) (omega arith)))))
+    ∙ rw (o .of-ship .ensures, l .line .ensures, bytes) (sym (writing-judged (a .room) (a .x) (omega arith) (sym (f .timber-for-a .ensures) ∙ t .if2 .left) (omega arith)))))

@@ -39,8 +39,8 @@ write-spec =
     let a = m .before .before .before .args in
     let e = eqb-true _ 0 (told m ∙ t .if1 .taken) in
     let p = writing-passed (length (now (a .buf))) (a .x) (ap (λ (z : Paper). z .number) (sym (m .before .verdict .ensures)) ∙ e) in
-    let g = good (a .x) (ap (λ (z : Paper). z .number) (p .2)) in
-    ((p .1, p .3), (head-fits (a .x) (p .0) (p .1) g, houses-fit (a .x) g)))
+    let g = good (a .x) (ap (λ (z : Paper). z .number) (p .3)) in
+    ((p .2, p .4), (head-fits (a .x) (p .0) (p .2) g, houses-fit (a .x) g)))
     (λ c. search needs)
     (λ c.
     let w = c .before .before in

@@ -67,6 +67,7 @@ ship-cleaned f six g =
     λ i. record {
       kind = f .kind;
       n = f .n;
+      timber = flagOf (f .timber);
       length = f .length;
       depth = f .depth;
       moulded = f .moulded;

@@ -68,6 +68,7 @@ ship-back x =
     λ i. record {
       kind = x .kind;
       n = x .n;
+      timber = flag-back (x .timber) i;
       length = x .length;
       depth = x .depth;
       moulded = x .moulded;

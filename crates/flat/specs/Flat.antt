@@ -33,6 +33,7 @@ unfoldable pub shipOf : Ship → FlatShip
 shipOf x = record {
   kind = x .kind;
   n = x .n;
+  timber = bit (x .timber);
   length = x .length .0;
   depth = x .depth .0;
   moulded = x .moulded .0;
@@ -63,6 +64,7 @@ unfoldable pub shipFrom : FlatShip → Ship
 shipFrom x = record {
   kind = x .kind;
   n = x .n;
+  timber = not (eqb (x .timber) 0);
   length = record { 0 = x .length };
   depth = record { 0 = x .depth };
   moulded = record { 0 = x .moulded };
@@ -107,6 +109,7 @@ unfoldable pub flatClean : FlatShip → FlatShip
 flatClean x = record {
   kind = x .kind;
   n = x .n;
+  timber = flagOf (x .timber);
   length = x .length;
   depth = x .depth;
   moulded = x .moulded;
@@ -123,6 +126,7 @@ unfoldable pub flatZero : FlatShip
 flatZero = record {
   kind = 0;
   n = 0;
+  timber = 0;
   length = 0;
   depth = 0;
   moulded = 0;

@@ -27,6 +27,8 @@ pub struct FlatHouse {
 pub struct FlatShip {
     pub kind: u64,
     pub n: u64,
+    // A flag too: timber freeboards are asked for.
+    pub timber: u64,
     pub length: u64,
     pub depth: u64,
     pub moulded: u64,
@@ -102,11 +104,13 @@ pub fn of_ship(x: Ship) -> FlatShip
 {
     let s = x.sheer;
     let hs = x.houses;
+    let timber = record::bit_of(x.timber);
     let sheer = of_sheer(s);
     let houses = of_houses(hs);
     FlatShip {
         kind: x.kind,
         n: x.n as u64,
+        timber,
         length: x.length.0,
         depth: x.depth.0,
         moulded: x.moulded.0,
@@ -175,6 +179,7 @@ pub fn to_ship(x: FlatShip) -> Ship
     Ship {
         kind: x.kind,
         n: x.n as usize,
+        timber: x.timber != 0,
         length: Span(x.length),
         depth: Span(x.depth),
         moulded: Span(x.moulded),

@@ -10,12 +10,15 @@ of-ship-spec =
     (tie.spec
     (λ c κs. search needs)
     (λ c κs. search needs)
+    (λ c κs. search needs)
     (λ c.
     let s = c .before in
-    let x = s .before .before .before .args .x in
+    let b = s .before in
+    let x = b .before .before .before .args .x in
     λ i. record {
       kind = x .kind;
       n = x .n;
+      timber = b .bit-of .ensures .0 i;
       length = x .length .0;
       depth = x .depth .0;
       moulded = x .moulded .0;

@@ -1,3 +1,5 @@
+use mathlib.Core.Bool.{not}
+use lib.Dec.{eqb}
 use borrow.Author.Needs.{needs}
 use Rattle.flat.specs.Flat.{shipFrom}
 use Rattle.flat.proofs.to_ship.Statement.{statement}
@@ -11,11 +13,13 @@ to-ship-spec =
     (λ c κs. search needs)
     (λ c κs. search needs)
     (λ c.
-    let s = c .before in
+    let h = c .before in
+    let s = h .before in
     let x = s .before .before .before .args .x in
     λ i. record {
       kind = x .kind;
       n = x .n;
+      timber = not (eqb (x .timber) 0);
       length = record { 0 = x .length };
       depth = record { 0 = x .depth };
       moulded = record { 0 = x .moulded };
@@ -24,5 +28,5 @@ to-ship-spec =
       sheer = s .to-sheer .ensures i;
       displacement = x .displacement;
       immersion = x .immersion;
-      houses = c .to-houses .ensures i;
+      houses = h .to-houses .ensures i;
     }))

@@ -7,3 +7,4 @@ pub mod Round
 pub mod Row
 pub mod Signed
 pub mod Difference
+pub mod Integers

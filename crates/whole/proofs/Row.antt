@@ -3,13 +3,14 @@ use mathlib.Core.Path.{_≡_, refl, sym}
 use mathlib.Core.List.{List, [], _∷_}
 use Prim.Native.Nat.{ℕ, zero, suc, zero-le, _+_, _*_, _-_, _/_, _≤_, _<_, min}
 use native.Mathlib.Omega.{arith}
+use native.Mathlib.Decide.{decLt}
 use native.Mathlib.Numerals.{add-one}
 use native.Mathlib.Nat.{mul-le-mul-left, mul-le-mul-right, mul-comm, zero-sub, min-zero, min-eq-right, div-mul-le-self, lt-div-mul-add, not-suc-le-zero, le-of-suc-le-suc, le-trans}
 use lib.ListN.{length, getD}
 use Rattle.whole.proofs.Divide.{min-mul, sub-mul}
 use Rattle.whole.specs.Frac.{Frac, _≤f_, _≈f_, _+f_, _*f_, _-f_, whole}
 use Rattle.whole.specs.Round.{Near}
-use Rattle.whole.specs.Row.{Rises, Rising, gain, height, along}
+use Rattle.whole.specs.Row.{Rises, Rising, Under, gain, height, along}
 
 -- the value from the beginning of the segment j, in which the place lies: as code works it
 unfoldable pub heightIn : List ℕ → ℕ → ℕ → ℕ → ℕ
@@ -56,6 +57,33 @@ gain-zero : (p : ℕ) (ps : List ℕ) (d : ℕ) → gain p ps 0 d ≡ 0
 unfolding gain
 gain-zero p [] d = refl
 gain-zero p (q ∷ ps) d = rw (zero-sub d, gain-zero q ps d, min-zero d) (omega arith)
+
+-- of two rows, one nowhere below the other: on a segment, and from it on
+blend : (p r q s t e : ℕ) → p ≤ r → q ≤ s → p ≤ q → r ≤ s → p * (t + e) + (r - p) * t ≤ q * (t + e) + (s - q) * t
+blend p r q s t e a b c d =
+    omega (arith, sub-mul r p t, sub-mul s q t, mul-le-mul-right t a, mul-le-mul-right t b, mul-le-mul-right e c, mul-le-mul-right t d)
+
+gain-under : (m M n N p q : ℕ) (ps qs : List ℕ) → Rises m M p ps → Rises n N q qs → p ≤ q → Under ps qs → (t d : ℕ)
+    → p * d + gain p ps t d ≤ q * d + gain q qs t d
+unfolding gain
+gain-under m M n N p q [] [] a b c u t d = omega (arith, mul-le-mul-right d c)
+gain-under m M n N p q [] (s ∷ qs) a b c u t d = omega (arith, mul-le-mul-right d c)
+gain-under m M n N p q (r ∷ ps) [] a b c u t d = absurd u
+gain-under m M n N p q (r ∷ ps) (s ∷ qs) a b c u t d =
+    elim (decLt t d) [
+      | yes h ↦ (
+          let z : t - d ≡ 0 = omega arith in
+          let k : min d t ≡ t = omega arith in
+          let e : t + (d - t) ≡ d = omega arith in
+          let f : p * d + (r - p) * t ≤ q * d + (s - q) * t = rw e at (blend p r q s t (d - t) (a .0) (b .0) c (u .0)) in
+          rw (z, k, gain-zero r ps d, gain-zero s qs d) (omega (arith, f))
+          )
+      | no h ↦ (
+          let k : min d t ≡ d = omega arith in
+          let i = gain-under m M n N r s ps qs (a .2) (b .2) (u .0) (u .1) (t - d) d in
+          rw k (omega (arith, i, sub-mul r p d, sub-mul s q d, mul-le-mul-right d (a .0), mul-le-mul-right d (b .0)))
+          )
+    ]
 
 segment : (m M p : ℕ) (ps : List ℕ) → Rises m M p ps → (j t d : ℕ) → j < length ps → j * d ≤ t → t ≤ suc j * d
     → p * d + gain p ps t d ≡ getD (p ∷ ps) j 0 * d + (getD (p ∷ ps) (suc j) 0 - getD (p ∷ ps) j 0) * (t - j * d)
@@ -145,6 +173,14 @@ along-steep r x y s h = omega (arith, height-steep r (x .top) (x .bot) (y .top) 
 
 pub along-most : {m M : ℕ} {row : List ℕ} → Rising m M row → (x : Frac) → along row x ≤f whole M
 along-most r x = omega (arith, height-most r (x .top) (x .bot))
+
+-- a row that is nowhere below another has nowhere a lower value
+pub along-under : {m M n N : ℕ} {row upper : List ℕ} → Rising m M row → Rising n N upper → Under row upper → (x : Frac) → along row x ≤f along upper x
+unfolding height
+along-under {row = []} a b u x = absurd (a .steps)
+along-under {row = p ∷ ps} {upper = []} a b u x = absurd u
+along-under {m} {M} {n} {N} {row = p ∷ ps} {upper = q ∷ qs} a b u x =
+    record { le = mul-le-mul-right (x .bot) (gain-under m M n N p q ps qs (a .steps) (b .steps) (u .0) (u .1) (x .top) (x .bot)) }
 
 -- what the value is: between the entries j and j + 1 it is linear
 pub along-in : {m M : ℕ} {row : List ℕ} → Rising m M row → (j : ℕ) (x : Frac) → j + 1 < length row → whole j ≤f x → x ≤f whole (j + 1)

@@ -17,6 +17,12 @@ Steps m M (p ∷ ps) = Rises m M p ps
 pub record Rising (m M : ℕ) (row : List ℕ) : Type 0 where
   pub steps : Steps m M row
 
+-- each entry of a row is at most another row's in its place
+abbrev pub Under : List ℕ → List ℕ → Type 0
+Under [] qs = Unit {0}
+Under (p ∷ ps) [] = ⊥
+Under (p ∷ ps) (q ∷ qs) = (p ≤ q) × Under ps qs
+
 -- what the row p, ps has gained over p at the place t / d, times d: each segment gives its rise times the part of it that lies before the place
 unfoldable pub gain : ℕ → List ℕ → ℕ → ℕ → ℕ
 gain p [] t d = 0

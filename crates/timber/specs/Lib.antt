@@ -1,0 +1,3 @@
+pub mod Timber
+pub mod Exact
+pub mod Answer

@@ -1,5 +1,5 @@
 -- How close the rounded sheer is to the exact one.
-use Prim.Native.Nat.{ℕ, _+_, _*_, _-_, _≤_, _<_}
+use Prim.Native.Nat.{ℕ, _+_, _*_, _≤_, _<_}
 use mathlib.Core.Path.{_≡_}
 use mathlib.Core.Logic.{_⊎_, inl, inr}
 use mathlib.Core.List.{List}
@@ -8,8 +8,8 @@ use native.Mathlib.Nat.{zero-mul, zero-min}
 use Rattle.whole.specs.Frac.{Frac, _≤f_, _+f_, _*f_, _-f_, whole, frac}
 use Rattle.whole.specs.Round.{Within, Below}
 use Rattle.whole.proofs.Frac.{bot-of, refl≤, trans≤, +-mono≤, *-mono≤, sub-le}
-use Rattle.whole.proofs.Round.{near-self, loosen, sum, below-sum, less, by-ceil, by-floor, near-times, near-min, near-ceil, near-floor}
-use Rattle.whole.proofs.Signed.{one-side}
+use Rattle.whole.proofs.Round.{near-self, loosen, sum, below-sum, by-ceil, by-floor, near-times, near-min, near-ceil, near-floor}
+use Rattle.whole.proofs.Signed.{Cost, one-side}
 use Rattle.units.specs.declared.Ordinate.{Ordinate}
 use Rattle.sheer.specs.Sheer.{afterSum, forwardSum, exactExcess, exactDeficiency, exactAddition, exactDeduction, excess, deficiency, addition, deduction, added, deducted, exactAdded, exactDeducted}
 use Rattle.sheer.proofs.Rounded.{one-part, none-added, none-deducted}
@@ -44,10 +44,15 @@ one-correction o L S reach =
       | inr z ↦ inr (none-deducted (excess (afterSum o) (forwardSum o) L) L S reach (rw (z .0, zero-mul)), rw (z .1, zero-mul, zero-mul, zero-mul, zero-min))
     ]
 
--- Both in one: to what is added so far and what is taken, sheer adds its own; their difference stays never below the exact one, and 2 um further above it than it was
-pub sheer-within : {b c : ℕ} {x y e f : Frac} (o : List Ordinate) (L S reach : ℕ) → 0 < L → reach ≤ 2 * L → Within b x e → Below c y f
-    → Within (b + added o L S - (c + deducted o L S reach)) (x +f exactAdded o L S -f (y +f exactDeducted o L S reach)) (e +f f +f whole 2)
-sheer-within {e = e} {f = f} o L S reach h g v w =
+-- Both in one: to what is added so far and what is taken, sheer adds its own, and costs 2 um more for the two together
+pub sheer-cost : {b c : ℕ} {x y e f : Frac} (o : List Ordinate) (L S reach : ℕ) → 0 < L → reach ≤ 2 * L → Within b x e → Below c y f
+    → Cost (b + added o L S) (x +f exactAdded o L S) (c + deducted o L S reach) (y +f exactDeducted o L S reach) (e +f f +f whole 2)
+sheer-cost {e = e} {f = f} o L S reach h g v w =
     let k = one-side (added-within o L S) (deducted-below o L S reach h g) (one-correction o L S reach) in
-    loosen (trans≤ {y = e +f f +f (k .up +f k .down)} (omega arith) (+-mono≤ (refl≤ (e +f f)) (k .both)))
-    (less (sum v (k .plus)) (below-sum w (k .minus)))
+    record {
+      up = e +f k .up;
+      down = f +f k .down;
+      plus = sum v (k .plus);
+      minus = below-sum w (k .minus);
+      both = trans≤ {y = e +f f +f (k .up +f k .down)} (omega arith) (+-mono≤ (refl≤ (e +f f)) (k .both));
+    }

@@ -26,6 +26,7 @@ abbrev pub ofDepth : ℕ → Ship → Ship
 ofDepth d x = record {
   kind = x .kind;
   n = x .n;
+  timber = x .timber;
   length = x .length;
   depth = record { 0 = d };
   moulded = x .moulded;

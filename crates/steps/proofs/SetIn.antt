@@ -20,6 +20,7 @@ abbrev pub withHouses : List House → Ship → Ship
 withHouses hs x = record {
   kind = x .kind;
   n = x .n;
+  timber = x .timber;
   length = x .length;
   depth = x .depth;
   moulded = x .moulded;

@@ -28,6 +28,7 @@ abbrev pub ofKind : ℕ → Ship → Ship
 ofKind k x = record {
   kind = k;
   n = x .n;
+  timber = x .timber;
   length = x .length;
   depth = x .depth;
   moulded = x .moulded;

@@ -37,7 +37,7 @@ one-nought x y =
       | no t ↦ inr (omega arith)
     ]
 
--- and where what is made of that one is 0 too, rounded and exact, only the other's rounding costs
+-- what c for x on the one side and d for y on the other cost together: at most s, however it is split
 pub record Cost (c : ℕ) (x : Frac) (d : ℕ) (y s : Frac) : Type 0 where
   pub up : Frac
   pub down : Frac
@@ -45,6 +45,7 @@ pub record Cost (c : ℕ) (x : Frac) (d : ℕ) (y s : Frac) : Type 0 where
   pub minus : Below d y down
   pub both : up +f down ≤f s
 
+-- where of two parts one is 0, rounded and exact, only the other's rounding costs
 pub one-side : {c d : ℕ} {x y s : Frac} → Within c x s → Below d y s → ((c ≡ 0) × (x .top ≡ 0)) ⊎ ((d ≡ 0) × (y .top ≡ 0)) → Cost c x d y s
 one-side {c} {d} {x} {y} {s} v w z =
     elim z [

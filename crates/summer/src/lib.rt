@@ -1,4 +1,4 @@
-// The steps to the summer mark, put together: what is added, what is taken, and the mark, of a hull and a deck.
+// The steps to the summer mark and to LS, put together: what is added, what is taken, and the mark, of a hull and a deck.
 ghost use mathlib.Core.Path.{_≡_};
 ghost use Prim.Native.Nat.{_*_, _≤_, _^_};
 ghost use Rattle.percentages.specs.Table37.{entries};
@@ -6,17 +6,24 @@ ghost use Rattle.deduction.specs.Deduction37.{deduction};
 ghost use Rattle.effective.specs.Unrounded.{FairRatio, FairLength};
 ghost use Rattle.deck.specs.Deck.{FairDeck};
 ghost use Rattle.hull.specs.Parts.{FairHull};
-ghost use Rattle.summer.specs.Parts.{addedOn, takenOn, summerOn};
+ghost use Rattle.summer.specs.Parts.{addedOn, takenOn, balanceOn, summerOn, timberOn};
 use corrections::before_sheer;
 use corrections::depth;
 use deck::Deck;
 use hull::Hull;
 use percentages::Row;
+use timber::Level;
 use units::Effective;
 use units::Freeboard;
 use units::Ratio;
 use units::Span;
 use units::Unrounded;
+
+// What is added and what is taken, which meet only in a mark.
+pub struct Balance {
+    pub added: Freeboard,
+    pub taken: Freeboard,
+}
 
 // The houses' deduction (37) for an effective length `e`, by a row of percentages.
 fn deduction_by(row: Row, l: Span, e: Effective) -> Freeboard
@@ -31,12 +38,11 @@ fn deduction_by(row: Row, l: Span, e: Effective) -> Freeboard
 }
 
 // What is added: the line, made greater for short B ships (29) and fullness (30), then what depth adds (31), then sheer where it is lacking (38).
-fn added(h: Hull, e: Effective, lacking: Freeboard) -> Freeboard
-    requires { ⌜ FairHull h × (lacking .0 ≤ 9000000) ⌝ }
-    ensures { λ r. ⌜ r .0 ≡ addedOn h (e .0) (lacking .0) ⌝ }
+fn added(line: Freeboard, h: Hull, e: Effective, lacking: Freeboard) -> Freeboard
+    requires { ⌜ (line .0 ≤ 6400000) × FairHull h × (lacking .0 ≤ 9000000) ⌝ }
+    ensures { λ r. ⌜ r .0 ≡ addedOn (line .0) h (e .0) (lacking .0) ⌝ }
     ensures { λ r. ⌜ r .0 ≤ 2 ^ 32 ⌝ }
 {
-    let line = h.basis.line;
     let full = before_sheer::made_full(line, h.b, h.length, h.block, e);
     units::sum(units::sum(full, h.deep), lacking)
 }
@@ -53,6 +59,7 @@ fn taken(
 ) -> Freeboard
     requires { ⌜ FairHull h × FairRatio amidships × FairLength forecastle × (e .0 ≤ 1000 * h .length .0) × (excess .0 ≤ 456250) ⌝ }
     ensures { λ r. ⌜ r .0 ≡ takenOn (entries row) h amidships forecastle (e .0) (excess .0) ⌝ }
+    ensures { λ r. ⌜ r .0 ≤ 2 ^ 32 ⌝ }
 {
     let l = h.length;
     let shallow = depth::reduction(l, h.depth, amidships);
@@ -61,24 +68,42 @@ fn taken(
     units::sum(units::sum(shallow, granted), excess)
 }
 
+// The two of a hull and a deck, from a line and by a row of percentages.
+fn balance_on(line: Freeboard, row: Row, h: Hull, d: Deck) -> Balance
+    requires { ⌜ (line .0 ≤ 6400000) × FairHull h × FairDeck (h .length .0) d ⌝ }
+    ensures { λ r. ⌜ r ≡ balanceOn (line .0) (entries row) h d ⌝ }
+    ensures { λ r. ⌜ (r .added .0 ≤ 2 ^ 32) × (r .taken .0 ≤ 2 ^ 32) ⌝ }
+{
+    let l = h.length;
+    let forecastle = d.forecastle;
+    let e = summed::effective_length(d.effective);
+    let c = sheer_correction::correct(h.mean, l, d.s, d.reach);
+    let gained = added(line, h, e, c.added);
+    let lost = taken(row, h, d.amidships, forecastle.effective, e, c.deducted);
+    Balance {
+        added: gained,
+        taken: lost,
+    }
+}
+
 // The summer mark of a hull and a deck, in millimetres.
 pub fn summer_on(h: Hull, d: Deck) -> u64
     requires { ⌜ FairHull h × FairDeck (h .length .0) d ⌝ }
     ensures { λ r. ⌜ r ≡ summerOn h d ⌝ }
 {
     let l = h.length;
-    let forecastle = d.forecastle;
-    let e = summed::effective_length(d.effective);
-    let c = sheer_correction::correct(h.mean, l, d.s, d.reach);
-    let gained = added(h, e, c.added);
-    let lost = taken(
-        Row::Ordinary,
-        h,
-        d.amidships,
-        forecastle.effective,
-        e,
-        c.deducted,
-    );
-    let bow = bow::freeboard(h.bow, l, forecastle.part, forecastle.height);
-    mark::summer(h.basis.floor, gained, lost, bow)
+    let f = d.forecastle;
+    let b = balance_on(h.basis.line, Row::Ordinary, h, d);
+    let bow = bow::freeboard(h.bow, l, f.part, f.height);
+    mark::summer(h.basis.floor, b.added, b.taken, bow)
+}
+
+// LS of a hull and a deck, from the line of its type: by the timber percentages, with no bow height and no floor.
+pub fn timber_on(line: Freeboard, h: Hull, d: Deck) -> Level
+    requires { ⌜ (line .0 ≤ 6400000) × FairHull h × FairDeck (h .length .0) d ⌝ }
+    ensures { λ r. ⌜ r ≡ timberOn (line .0) h d ⌝ }
+    ensures { λ r. ⌜ (r .up ≤ 2 ^ 31) × (r .down ≤ 2 ^ 31) ⌝ }
+{
+    let b = balance_on(line, Row::Timber, h, d);
+    timber::level_of(b.added, b.taken)
 }

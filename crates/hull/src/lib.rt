@@ -2,6 +2,7 @@
 ghost use mathlib.Core.Path.{_≡_};
 ghost use Prim.Native.Nat.{_≤_};
 ghost use Rattle.steps.specs.Steps.{Sound, basis, particularsOf};
+ghost use Rattle.steps.specs.Timber.{timberBasis};
 ghost use Rattle.hull.specs.Parts.{hullOf, FairHull};
 use basis::Basis;
 use bow::Height;
@@ -52,6 +53,16 @@ pub fn hull_of(x: Ship) -> Hull
         mean,
         bow,
     }
+}
+
+// The line that timber freeboards begin from (45(6)).
+pub fn timber_line(x: Ship) -> Freeboard
+    requires { ⌜ Sound x ⌝ }
+    ensures { λ r. ⌜ r .0 ≡ timberBasis x .line ⌝ }
+    ensures { λ r. ⌜ r .0 ≤ 6400000 ⌝ }
+{
+    let b = basis::basis_of(kind::for_timber(x.kind), x.length);
+    b.line
 }
 
 // What the other marks need of a ship. The floor is the least freeboard that its type decides.

@@ -1,2 +1,3 @@
 pub mod Bound
 pub mod OneToOne
+pub mod Given

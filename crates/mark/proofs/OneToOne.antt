@@ -20,7 +20,7 @@ one-sheet (Refused r) (Refused q) e =
     let s : r ≡ q = cc in
     ap Refused s
 
--- marks that are given beside a verdict's marks are those
+-- marks that are given beside a verdict's marks are those, and the verdict accepts
 pub given-marks : (v : Paper) (k m : Marks) → record { verdict = accepted; marks = m } ≡ sheetOf v k → (v ≡ accepted) × (m ≡ k)
 unfolding pick
 given-marks v k m e =

@@ -1,5 +1,5 @@
-pub mod Figures
 pub mod Computed
 pub mod Bound
 pub mod Order
 pub mod OneToOne
+pub mod Figures

@@ -158,13 +158,15 @@ share-grows row l e f h =
     floor-mono (exactShare row l (whole e) *f whole 1000000) (exactShare row l (whole f) *f whole 1000000)
     (*-mono≤ (*-mono≤ (along-mono row (*-mono≤ {x = whole e} {y = whole f} (omega arith) (refl≤ t))) (refl≤ (frac 1 1000))) (refl≤ (whole 1000000)))
 
-pub deduction-grows : (row : List ℕ) (l e f : ℕ) → e ≤ f → deduction row l e ≤ deduction row l f
-unfolding deduction ofFull
-deduction-grows row l e f h =
-    let s = share row l e in
-    let t = share row l f in
+pub of-full-grows : (l s t : ℕ) → s ≤ t → ofFull l s ≤ ofFull l t
+unfolding ofFull
+of-full-grows l s t h =
     floor-mono (whole (full l) *f frac s 1000000) (whole (full l) *f frac t 1000000)
-    (*-mono≤ {z = frac s 1000000} {w = frac t 1000000} (refl≤ (whole (full l))) (omega (arith, share-grows row l e f h)))
+    (*-mono≤ {z = frac s 1000000} {w = frac t 1000000} (refl≤ (whole (full l))) (omega arith))
+
+pub deduction-grows : (row : List ℕ) (l e f : ℕ) → e ≤ f → deduction row l e ≤ deduction row l f
+unfolding deduction
+deduction-grows row l e f h = of-full-grows l (share row l e) (share row l f) (share-grows row l e f h)
 
 pub deducted-grows : (typeB : Bool) (row : List ℕ) {x y : Frac} (l e f : ℕ) → x ≤f y → e ≤ f → deducted typeB row x l e ≤ deducted typeB row y l f
 unfolding deducted lacksForecastle pick

@@ -1,1 +1,2 @@
 pub mod Rule37
+pub mod Rows

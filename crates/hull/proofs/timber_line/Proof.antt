@@ -20,6 +20,7 @@ timber-line-spec =
     let P : ℕ → Type 0 = λ k. (k ≤ kindCovers) × (k ≡ kindCovers → x .length .0 ≤ 200000) in
     ((g .length-least, g .length-most), subst P (sym (c .for-timber .ensures)) (t .0 (s .pre .type), λ e. g .covers-short (t .1 e))))
     (λ c.
-    let f = c .before in
-    let x = f .before .before .args .x in
-    (c .basis-of .ensures .0 .0 ∙ ap (λ (k : ℕ). basisOf k (x .length .0) .line) (f .for-timber .ensures), c .basis-of .ensures .1 .0)))
+    let b = c .before in
+    let f = b .before in
+    let x = f .before .args .x in
+    (b .basis-of .ensures .0 .0 ∙ ap (λ (k : ℕ). basisOf k (x .length .0) .line) (f .for-timber .ensures), b .basis-of .ensures .1 .0)))

@@ -3,3 +3,4 @@ pub mod Particulars
 pub mod Depth
 pub mod Types
 pub mod SetIn
+pub mod Timber

@@ -1,4 +1,5 @@
 -- Timber freeboards (41 to 45) of a ship: the steps to the summer mark once more, with what 45 puts in the place of theirs.
+use mathlib.Core.Bool.{Bool}
 use lib.IntN.{ℤ}
 use Rattle.whole.specs.Frac.{Frac}
 use Rattle.percentages.specs.Table37.{timberRow}
@@ -6,7 +7,7 @@ use Rattle.ship.specs.declared.Ship.{Ship}
 use Rattle.ship.specs.Kinds.{isReduced, timberKind}
 use Rattle.mark.specs.declared.Marks.{Marks}
 use Rattle.timber.specs.declared.TimberMarks.{TimberMarks}
-use Rattle.timber.specs.Timber.{timberSummer, timberMarks}
+use Rattle.timber.specs.Timber.{timberSummer, timberGiven, timberMarks}
 use Rattle.basis.specs.Basis.{Basis, basisOf}
 use Rattle.steps.specs.Steps.{addedTo, takenFrom}
 use Rattle.steps.specs.Exact.{exactAddedTo, exactTakenFrom}
@@ -25,6 +26,10 @@ exactTimberAdded x = exactAddedTo (timberBasis x .exact) x
 
 abbrev pub exactTimberTaken : Ship → Frac
 exactTimberTaken x = exactTakenFrom timberRow x
+
+-- 02: a ship has timber marks where its LS is below D
+abbrev pub hasTimber : Ship → Bool
+hasTimber x = timberGiven (x .depth .0) (timberSummerOf x)
 
 -- the six timber marks, beside the ordinary ones, of which they need W and WNA
 unfoldable pub timberMarksOf : Ship → Marks → TimberMarks

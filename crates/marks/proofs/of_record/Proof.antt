@@ -2,7 +2,7 @@ use mathlib.Core.Path.{sym, _∙_}
 use denote.Ref.{now}
 use Rattle.reader.proofs.Told.{read-as, read-refused}
 use Rattle.marks.proofs.Demand.{bounded-in}
-use Rattle.marks.proofs.Sheet.{sheet-read, sound-read, sheet-refused}
+use Rattle.marks.proofs.Sheet.{sound-read, answer-read, answer-refused}
 use borrow.Author.Needs.{needs}
 use Rattle.marks.proofs.of_record.Statement.{statement}
 use Rattle.marks.proofs.of_record.Tie as tie
@@ -23,11 +23,11 @@ of-record-spec =
     let a = c .before .before in
     let r = a .before .before in
     let s = now (r .before .before .args .s) in
-    let e = c .of-ship .ensures .0 ∙ sym (sheet-read s (r .read .result .ship) (read-as s (r .read .result) (r .read .ensures) (a .enum-told .given .1))) in
+    let e = c .of-ship .ensures .0 ∙ sym (answer-read s (r .read .result .ship) (read-as s (r .read .result) (r .read .ensures) (a .enum-told .given .1))) in
     (e, bounded-in s (c .of-ship .result) e))
     (λ c.
     let v = c .before in
     let r = v .before .before in
     let s = now (r .before .before .args .s) in
     let n = v .v .given .0 .0 in
-    (sym (sheet-refused s n (read-refused s (r .read .result) (r .read .ensures) n (v .v .given .1))), tt)))
+    (sym (answer-refused s n (read-refused s (r .read .result) (r .read .ensures) n (v .v .given .1))), tt)))

@@ -9,3 +9,4 @@ pub mod Written
 pub mod House
 pub mod RoundTrip
 pub mod Theorems
+pub mod Flag

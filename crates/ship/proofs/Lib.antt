@@ -5,4 +5,4 @@ pub mod OneToOne
 pub mod Passing
 pub mod Zero
 pub mod Split
-pub mod TimberKind
+pub mod Timber

@@ -1,7 +1,7 @@
 -- 02 §9, of a ship: LS is not above S but on a reduced ship, a reduced ship's LWNA is level with its W as 45(7) asks, and the flag changes no ordinary mark.
-use Prim.Native.Nat.{ℕ, _+_, _≤_, _<_}
+use Prim.Native.Nat.{ℕ, _≤_, _<_}
 use mathlib.Core.Bool.{Bool, true, false}
-use mathlib.Core.Path.{_≡_, refl, sym, ap, subst}
+use mathlib.Core.Path.{_≡_, refl, sym, ap}
 use native.Mathlib.Omega.{arith}
 use lib.IntN.{pos}
 use lib.Signed.{_≤ℤ_}
@@ -13,14 +13,13 @@ use Rattle.percentages.proofs.Rule37.{each-row}
 use Rattle.percentages.proofs.Rows.{ordinary-under-timber}
 use Rattle.ship.specs.declared.Ship.{Ship}
 use Rattle.ship.specs.Kinds.{isReduced}
-use Rattle.ship.proofs.TimberKind.{own-kind, reduced-is-long}
+use Rattle.ship.proofs.Timber.{own-kind, reduced-is-long, withFlag}
 use Rattle.houses.specs.Effective.{exactEffective}
 use Rattle.deduction.proofs.Rows.{deducted-under}
 use Rattle.mark.specs.Others.{atlantic}
 use Rattle.timber.proofs.Order.{timber-no-higher, timber-below}
 use Rattle.basis.specs.Basis.{basisOf}
 use Rattle.steps.specs.Steps.{Sound, typeB, basis, coveredS, effectiveE, forecastleHouse, amidshipsRatio, coverReach, addedTo, takenFrom, bowOf, summerOf, particularsOf}
-use Rattle.steps.specs.Exact.{exactE, exactAddedTo, exactTakenFrom, exactBowOf, exactSummerOf}
 use Rattle.steps.specs.Timber.{timberBasis, timberSummerOf, hasTimber}
 
 -- 45's percentages take no less than 37's
@@ -48,24 +47,7 @@ pub reduced-atlantic : (x : Ship) → Sound x → isReduced (x .kind) ≡ true �
 unfolding atlantic
 reduced-atlantic x k e W = pick-false _ _ _ (lt-leb (x .length .0) 100000 (reduced-is-long x (k .good) e))
 
--- ---- a ship that differs in the timber flag alone
-abbrev pub withFlag : Bool → Ship → Ship
-withFlag b x = record {
-  kind = x .kind;
-  n = x .n;
-  timber = b;
-  length = x .length;
-  depth = x .depth;
-  moulded = x .moulded;
-  block = x .block;
-  waterplane = x .waterplane;
-  sheer = x .sheer;
-  displacement = x .displacement;
-  immersion = x .immersion;
-  houses = x .houses;
-}
-
--- has the same summer mark, and the same that the other marks are worked from
+-- ---- a ship that differs in the timber flag alone has the same summer mark, and the same that the other marks are worked from
 pub flag-summer : (b : Bool) (x : Ship) → summerOf (withFlag b x) ≡ summerOf x
 unfolding summerOf addedTo takenFrom bowOf coveredS effectiveE forecastleHouse amidshipsRatio coverReach
 flag-summer b x = refl

@@ -31,6 +31,7 @@ unfoldable pub withFirst : House → Ship → Ship
 withFirst h x = record {
   kind = x .kind;
   n = x .n + 1;
+  timber = x .timber;
   length = x .length;
   depth = x .depth;
   moulded = x .moulded;

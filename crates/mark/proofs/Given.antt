@@ -5,7 +5,7 @@ use native.Mathlib.Omega.{arith}
 use lib.Dec.{leb}
 use borrow.Author.Tests.{leb-false}
 use Rattle.whole.proofs.Pick.{by-cases}
-use Rattle.whole.proofs.Divide.{ceil-lt}
+use Rattle.whole.proofs.Divide.{ceil-ge, ceil-lt}
 use Rattle.ship.specs.Refusals.{Paper, first}
 use Rattle.ship.proofs.Lines.{all-pass}
 use Rattle.mark.specs.declared.Marks.{Marks}
@@ -33,3 +33,10 @@ six-small p S h d f =
       omega (arith, c),
       by-cases (λ (z : ℕ). z ≤ 120050) (leb (p .length .0) 100000) _ _ (λ t. omega (arith, c)) (λ t. omega (arith, c)),
     )
+
+-- W and WNA are above zero
+pub six-above : (p : Particulars) (S : ℕ) → S < p .depth .0 → 1 ≤ sixMarks p S .wna
+unfolding sixMarks winter atlantic
+six-above p S h =
+    let c = ceil-ge (draughtAt p S) 48 (omega arith) in
+    by-cases (λ (z : ℕ). 1 ≤ z) (leb (p .length .0) 100000) _ _ (λ t. omega (arith, c)) (λ t. omega (arith, c))

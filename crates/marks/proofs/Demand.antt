@@ -1,9 +1,10 @@
 -- Demand 2 of the call: where an answer gives marks, S is never below the exact value, and less than 1.1 mm above it, and where it gives timber marks, so is LS.
-use Prim.Native.Nat.{ℕ}
+use Prim.Native.Nat.{ℕ, _<_}
 use mathlib.Core.List.{List, _++_}
 use mathlib.Core.Bool.{true, _&&_}
 use mathlib.Core.Path.{_≡_, sym, ap, _∙_}
 use lib.Dec.{eqb}
+use borrow.Author.Tests.{leb-false}
 use native.Mathlib.Omega.{arith}
 use Rattle.ship.specs.declared.Ship.{Ship}
 use Rattle.ship.specs.Refusals.{Paper, first}
@@ -64,21 +65,26 @@ sound s a b =
     record { type = type-most (headIn s .version) (f .type); few = f .few; good = good (shipIn s) (ap (λ (t : Paper). t .number) (first-passed (shipLines (shipIn s)) b)) }
 
 -- for every byte string for which the marks call gives marks
-given-in : (s : List ℕ) (m : Marks) → Ordinary.sheet (Ordinarily.Given m) ≡ sheetIn s → Sound (shipIn s) × Holds (m .s) (exactSummerOf (shipIn s))
-unfolding sheetIn sixMarks
+-- what marks that are given show: the ship is sound, its S is below D, and they are its six
+pub given-in : (s : List ℕ) (m : Marks) → Ordinary.sheet (Ordinarily.Given m) ≡ sheetIn s
+    → let x = shipIn s in Sound x × (summerOf x < x .depth .0) × (m ≡ sixMarks (particularsOf x) (summerOf x))
+unfolding sheetIn particularsOf
 given-in s m e =
     let x = shipIn s in
     let more = markLines (particularsOf x) (summerOf x) in
     let v : first (frameLines s ++ (shipLines x ++ more)) .number ≡ 0 = sym (ap (λ (t : Ordinary.Sheet). t .verdict .number) e) in
     let p = all-pass-split (frameLines s) (shipLines x ++ more) (all-pass (frameLines s ++ (shipLines x ++ more)) (omega arith) v) in
     let q = all-pass-split (shipLines x) more (p .1) in
-    let k = sound s (p .0) (q .0) in
-    (k, rw (given-marks (first (frameLines s ++ (shipLines x ++ more))) (sixMarks (particularsOf x) (summerOf x)) m e .1) (summer-bounded x k))
+    (sound s (p .0) (q .0), leb-false (x .depth .0) (summerOf x) (q .1 .0), given-marks (first (frameLines s ++ (shipLines x ++ more))) (sixMarks (particularsOf x) (summerOf x)) m e .1)
+
+given-close : (s : List ℕ) (m : Marks) → Ordinary.sheet (Ordinarily.Given m) ≡ sheetIn s → Sound (shipIn s) × Holds (m .s) (exactSummerOf (shipIn s))
+unfolding sixMarks
+given-close s m e = let g = given-in s m e in (g .0, rw (g .2) (summer-bounded (shipIn s) (g .0)))
 
 pub bounded-in : (s : List ℕ) (r : Answer) → sheet r ≡ answerIn s → Bounded r (shipIn s)
 unfolding answerIn sheetWith
-bounded-in s (Given m) e = given-in s m (ap (λ (t : Sheet). t .ordinary) e) .1
+bounded-in s (Given m) e = given-close s m (ap (λ (t : Sheet). t .ordinary) e) .1
 bounded-in s (WithTimber m t) e =
-    let g = given-in s m (ap (λ (u : Sheet). u .ordinary) e) in
+    let g = given-close s m (ap (λ (u : Sheet). u .ordinary) e) in
     (g .1, timber-close (shipIn s) (sheetIn s) m t e (g .0))
 bounded-in s (Refused r) e = tt

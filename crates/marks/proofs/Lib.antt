@@ -5,3 +5,4 @@ pub mod Split
 pub mod OneToOne
 pub mod Types
 pub mod SetIn
+pub mod Timber

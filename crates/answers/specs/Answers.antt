@@ -1,5 +1,6 @@
 -- The answers of the calls for C: the papers' numbers laid out flat. Number 0 refuses nothing; beside any other all else is zero.
 use Prim.Native.Nat.{_^_, _<_}
+use mathlib.Core.Bool.{true}
 use mathlib.Core.Path.{_≡_}
 use lib.Dec.{eqb}
 use lib.IntN.{pos, natAbs}
@@ -10,8 +11,10 @@ use Rattle.record.specs.Reading.{Reading}
 use Rattle.record.specs.Writing.{bytesFor}
 use Rattle.mark.specs.declared.Marks.{Marks}
 use Rattle.mark.specs.Summer.{Holds}
-use Rattle.mark.specs.Others.{Sheet}
+use Rattle.timber.specs.Exact.{HoldsSigned}
+use Rattle.timber.specs.Answer.{Sheet}
 use Rattle.steps.specs.Exact.{exactSummerOf}
+use Rattle.steps.specs.Timber.{hasTimber, exactTimberAdded, exactTimberTaken}
 use Rattle.question.specs.Question.{Reply}
 use Rattle.answers.specs.declared.MarksAnswer.{MarksAnswer}
 use Rattle.answers.specs.declared.PoopAnswer.{PoopAnswer}
@@ -19,20 +22,30 @@ use Rattle.answers.specs.declared.ReadAnswer.{ReadAnswer}
 use Rattle.answers.specs.declared.WriteAnswer.{WriteAnswer}
 use Rattle.flat.specs.Flat.{shipOf}
 
+-- the timber six are zero too where none are asked for
 unfoldable pub fromSheet : Sheet → MarksAnswer
 fromSheet a = record {
-  verdict = a .verdict;
-  s = pos (a .marks .s);
-  t = pos (a .marks .t);
-  w = pos (a .marks .w);
-  wna = pos (a .marks .wna);
-  f = a .marks .f;
-  tf = a .marks .tf;
+  verdict = a .ordinary .verdict;
+  s = pos (a .ordinary .marks .s);
+  t = pos (a .ordinary .marks .t);
+  w = pos (a .ordinary .marks .w);
+  wna = pos (a .ordinary .marks .wna);
+  f = a .ordinary .marks .f;
+  tf = a .ordinary .marks .tf;
+  ls = a .timber .ls;
+  lt = a .timber .lt;
+  lw = a .timber .lw;
+  lwna = pos (a .timber .lwna);
+  lf = a .timber .lf;
+  ltf = a .timber .ltf;
 }
 
--- where marks are given, S is never below the exact value, and less than 1.1 mm above it
+-- where marks are given, S is never below the exact value, and less than 1.1 mm above it; and so is LS where it is asked for and the ship has it
 abbrev pub Bounded : MarksAnswer → Ship → Type 0
-Bounded a x = a .verdict .number ≡ 0 → Holds (natAbs (a .s)) (exactSummerOf x)
+Bounded a x =
+    a .verdict .number ≡ 0
+    → Holds (natAbs (a .s)) (exactSummerOf x)
+    × (x .timber ≡ true → hasTimber x ≡ true → HoldsSigned (a .ls) (exactTimberAdded x) (exactTimberTaken x))
 
 -- marks that a signed number holds with ease
 pub record Small (m : Marks) : Type 0 where

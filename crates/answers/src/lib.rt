@@ -1,12 +1,12 @@
 // The answers of the calls for C: structs of 64-bit numbers, by value. Each begins with the verdict's number, place and overlap; beside a refusal all else is 0.
 ghost use mathlib.Core.Path.{_≡_};
-ghost use Prim.Native.Nat.{_≤_};
+ghost use Prim.Native.Nat.{_^_, _≤_, _<_};
 ghost use lib.Dec.{eqb};
 ghost use Rattle.whole.specs.Pick.{pick};
 ghost use Rattle.ship.specs.Refusals.{paper};
 ghost use Rattle.record.specs.Writing.{bytesFor};
-ghost use Rattle.mark.specs.Others.{sheet};
-ghost use Rattle.mark.specs.declared.Answer.the-variants.{Given, Refused};
+ghost use Rattle.timber.specs.Answer.{sheet};
+ghost use Rattle.timber.specs.declared.Answer.the-variants.{WithTimber, Refused};
 ghost use Rattle.question.specs.Question.{reply};
 ghost use Rattle.answers.specs.Answers.{fromSheet, fromReply, Small};
 use flat::FlatShip;
@@ -16,8 +16,9 @@ use ship::refusal;
 use ship::refusal::Paper;
 use ship::refusal::Refusal;
 use ship::refusal::Verdict;
+use timber::TimberMarks;
 
-// The six marks, in mm below the deck line.
+// The six marks, in mm below the deck line, and the six timber marks, which are 0 where there are none.
 #[repr(C)]
 pub struct MarksAnswer {
     pub verdict: Paper,
@@ -27,6 +28,12 @@ pub struct MarksAnswer {
     pub wna: i64,
     pub f: i64,
     pub tf: i64,
+    pub ls: i64,
+    pub lt: i64,
+    pub lw: i64,
+    pub lwna: i64,
+    pub lf: i64,
+    pub ltf: i64,
 }
 
 // The shortest poop.
@@ -50,14 +57,15 @@ pub struct WriteAnswer {
     pub bytes: u64,
 }
 
-pub fn marked(m: Marks) -> MarksAnswer
-    requires { ⌜ Small m ⌝ }
-    ensures { λ r. ⌜ r ≡ fromSheet (sheet (Given m)) ⌝ }
+pub fn marked(m: Marks, l: TimberMarks) -> MarksAnswer
+    requires { ⌜ Small m × (l .lwna < 2 ^ 32) ⌝ }
+    ensures { λ r. ⌜ r ≡ fromSheet (sheet (WithTimber m l)) ⌝ }
 {
     let s = whole::with_sign(m.s);
     let t = whole::with_sign(m.t);
     let w = whole::with_sign(m.w);
     let wna = whole::with_sign(m.wna);
+    let lwna = whole::with_sign(l.lwna);
     let verdict = refusal::nothing();
     MarksAnswer {
         verdict,
@@ -67,6 +75,12 @@ pub fn marked(m: Marks) -> MarksAnswer
         wna,
         f: m.f,
         tf: m.tf,
+        ls: l.ls,
+        lt: l.lt,
+        lw: l.lw,
+        lwna,
+        lf: l.lf,
+        ltf: l.ltf,
     }
 }
 
@@ -82,6 +96,12 @@ pub fn unmarked(r: Refusal) -> MarksAnswer
         wna: 0,
         f: 0,
         tf: 0,
+        ls: 0,
+        lt: 0,
+        lw: 0,
+        lwna: 0,
+        lf: 0,
+        ltf: 0,
     }
 }
 

@@ -1,5 +1,5 @@
 // Writes each ship that an argument names into a buffer of the length it names, and prints the verdict and the whole buffer.
-// A file is 72 numbers of eight bytes: the buffer's length, the ship's numbers as they are held, and eight houses of seven numbers.
+// A file is 72 numbers of eight bytes: the buffer's length, the ship's numbers as they are held, and eight houses of seven numbers; one more, 1, is the timber flag.
 // What must come is in `stdout`, made by `samples writes` of twin/, which shares no code with the crates.
 ghost use Prim.Native.Nat.{_<_};
 ghost use lib.ListN.{length};
@@ -11,8 +11,8 @@ use units::Span;
 use units::Station;
 
 // The number at place k.
-fn at(buf: &[u8; 576], k: usize) -> u64
-    requires { ⌜ k < 72 ⌝ }
+fn at(buf: &[u8; 584], k: usize) -> u64
+    requires { ⌜ k < 73 ⌝ }
 {
     let t = &buf[..];
     let a = 8 * k;
@@ -20,7 +20,7 @@ fn at(buf: &[u8; 576], k: usize) -> u64
     bits::word(&t[a..e])
 }
 
-fn house(buf: &[u8; 576], k: usize) -> House
+fn house(buf: &[u8; 584], k: usize) -> House
     requires { ⌜ k < 8 ⌝ }
 {
     let i = 16 + 7 * k;
@@ -35,7 +35,7 @@ fn house(buf: &[u8; 576], k: usize) -> House
     }
 }
 
-fn vessel(buf: &[u8; 576]) -> Ship {
+fn vessel(buf: &[u8; 584]) -> Ship {
     let houses = [
         house(buf, 0),
         house(buf, 1),
@@ -57,6 +57,7 @@ fn vessel(buf: &[u8; 576]) -> Ship {
     Ship {
         kind: at(buf, 1),
         n: at(buf, 2) as usize,
+        timber: at(buf, 72) == 1,
         length: Span(at(buf, 3)),
         depth: Span(at(buf, 4)),
         moulded: Span(at(buf, 5)),
@@ -83,7 +84,7 @@ fn put(x: Ship, out: &mut [u8]) {
 }
 
 fn one(i: usize) {
-    let mut buf = [0u8; 576];
+    let mut buf = [0u8; 584];
     files::named(i, &mut buf);
     let room = at(&buf, 0) as usize;
     let mut out = [0xA5u8; 128];

@@ -1,11 +1,12 @@
 // Prints numbers, ships and refusals in the papers' own terms. What is printed is run and compared, not proved.
 use libc::STDOUT_FILENO;
-use mark::Answer;
 use mark::Marks;
 use ship::House;
 use ship::Ship;
 use ship::refusal;
 use ship::refusal::Refusal;
+use timber::Answer;
+use timber::TimberMarks;
 use units::Ordinate;
 use units::Span;
 use units::Station;
@@ -50,6 +51,12 @@ pub fn next_signed(n: i64) {
         text(b"-");
     }
     number(whole::size(n));
+}
+
+// A name, a space and a number with its sign.
+fn signed(name: &[u8], n: i64) {
+    text(name);
+    next_signed(n);
 }
 
 // A space, and a minus sign if there is something below zero.
@@ -130,6 +137,9 @@ fn sheer(s: [Ordinate; 6]) {
 
 pub fn vessel(x: Ship) {
     named(b"type", x.kind);
+    if x.timber {
+        text(b" timber");
+    }
     named(b" L", x.length.0);
     named(b" D", x.depth.0);
     named(b" M", x.moulded.0);
@@ -149,15 +159,27 @@ fn six(m: Marks) {
     named(b" T", m.t);
     named(b" W", m.w);
     named(b" WNA", m.wna);
-    text(b" F");
-    next_signed(m.f);
-    text(b" TF");
-    next_signed(m.tf);
+    signed(b" F", m.f);
+    signed(b" TF", m.tf);
+}
+
+// The timber marks, behind the others.
+fn timber_six(t: TimberMarks) {
+    signed(b" LS", t.ls);
+    signed(b" LT", t.lt);
+    signed(b" LW", t.lw);
+    named(b" LWNA", t.lwna);
+    signed(b" LF", t.lf);
+    signed(b" LTF", t.ltf);
 }
 
 pub fn answer(a: Answer) {
     match a {
         Answer::Given(m) => six(m),
+        Answer::WithTimber(m, t) => {
+            six(m);
+            timber_six(t);
+        }
         Answer::Refused(r) => refused(r),
     }
 }

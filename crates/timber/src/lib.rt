@@ -1,7 +1,7 @@
 // Timber freeboards (regulations 41 to 45): the marks of a ship with a timber deck cargo, in millimetres and with their sign.
 ghost use mathlib.Core.Path.{_≡_};
 ghost use Prim.Native.Nat.{_^_, _≤_};
-ghost use Rattle.timber.specs.Timber.{timberWinter, timberFrom, timberMarks, levelOf, signed};
+ghost use Rattle.timber.specs.Timber.{timberWinter, timberFrom, noTimber, timberMarks, levelOf, signed};
 use mark::Marks;
 use ship::refusal::Refusal;
 use units::Freeboard;
@@ -80,6 +80,20 @@ fn six_marks(reduced: bool, w: u64, wna: u64, s: Level, d: u64) -> TimberMarks
     }
 }
 
+// What stands where no timber marks are given.
+pub fn none() -> TimberMarks
+    ensures { λ r. ⌜ r ≡ noTimber ⌝ }
+{
+    TimberMarks {
+        ls: 0,
+        lt: 0,
+        lw: 0,
+        lwna: 0,
+        lf: 0,
+        ltf: 0,
+    }
+}
+
 // All six from LS, beside the ordinary W and WNA; or zeros where LS is at or above the depth.
 pub fn follow(reduced: bool, w: u64, wna: u64, depth: Span, s: Level) -> TimberMarks
     requires { ⌜ (w ≤ 2 ^ 30) × (depth .0 ≤ 2 ^ 30) × (s .up ≤ 2 ^ 31) × (s .down ≤ 2 ^ 31) ⌝ }
@@ -89,14 +103,7 @@ pub fn follow(reduced: bool, w: u64, wna: u64, depth: Span, s: Level) -> TimberM
     let up = s.up;
     let lowest = mm + s.down;
     if lowest <= up {
-        return TimberMarks {
-            ls: 0,
-            lt: 0,
-            lw: 0,
-            lwna: 0,
-            lf: 0,
-            ltf: 0,
-        };
+        return none();
     }
     six_marks(reduced, w, wna, s, lowest - up)
 }

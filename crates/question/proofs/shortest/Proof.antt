@@ -20,7 +20,7 @@ abbrev μ-loop : tie.MeasureT-loop
 
 -- a ship has eight places
 eight : (s : tie.Start Inv-loop μ-loop) → length (s .args .x .houses) ≡ 8
-eight s = simp length-map at (s .good .0 .1 .1 .1 .1 .1 .1 .1 .1 .1 .1 .1 .1 .0 .1 .0 .1)
+eight s = simp length-map at (s .good .0 .1 .1 .1 .1 .1 .1 .1 .1 .1 .1 .1 .1 .1 .0 .1 .0 .1)
 
 -- the search by what stays the same is the search
 whole : (d : tie.After-dm-within Inv-loop μ-loop)

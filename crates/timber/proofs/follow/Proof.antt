@@ -7,14 +7,15 @@ use Rattle.timber.proofs.follow.Statement.{statement}
 use Rattle.timber.proofs.follow.Tie as tie
 
 pub follow-spec : {M : Type 1} → statement M
-unfolding pick noTimber timberMarks
+unfolding pick timberMarks
 follow-spec =
     tie.close
     (tie.spec
     (λ c. search needs)
+    (λ c κs. search needs)
     (λ c.
-    let a = c .before .before .args in
-    rw (at-depth (a .depth .0) (a .s .up) (a .s .down) (omega arith)))
+    let a = c .before .before .before .args in
+    rw (at-depth (a .depth .0) (a .s .up) (a .s .down) (omega arith)) (c .none .ensures))
     (λ c. search needs)
     (λ c κs. search needs)
     (λ c.

@@ -15,7 +15,7 @@ use Rattle.trial.proofs.standing_of.Tie as tie
 
 -- a ship has eight places
 eight : (s : tie.Start) → length (s .args .x .houses) ≡ 8
-eight s = simp length-map at (s .good .0 .1 .1 .1 .1 .1 .1 .1 .1 .1 .1 .1 .1 .0 .1 .0 .1)
+eight s = simp length-map at (s .good .0 .1 .1 .1 .1 .1 .1 .1 .1 .1 .1 .1 .1 .1 .0 .1 .0 .1)
 
 pub standing-of-spec : {M : Type 1} → statement M
 unfolding standingOf hullOf poopHouse

@@ -33,7 +33,7 @@ typedef struct {
     uint8_t record[ROOM]; /* as the calls left it */
 } answer;
 
-_Static_assert(sizeof(request) == 960 && sizeof(answer) == 1304, "no padding");
+_Static_assert(sizeof(request) == 968 && sizeof(answer) == 1360, "no padding");
 
 static request requests[BATCH];
 static answer answers[BATCH];

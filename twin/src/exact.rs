@@ -1,4 +1,5 @@
-//! The summer freeboard with no rounding anywhere: same steps, same tests, same floor.
+//! The summer freeboard with no rounding anywhere: same steps, same tests, same floor. The summer timber
+//! freeboard likewise, which has no floor.
 //!
 //! Written with the regulations' own units, metres for lengths and mm for freeboards, in
 //! fractions, and apart from the rounded working.
@@ -47,19 +48,39 @@ fn linear(x: &Fraction, points: &[(Fraction, Fraction)]) -> Fraction {
     }
 }
 
+/// 37: the percentages at each tenth of E/L, in tenths of a per cent.
+const SHARES: [i64; 11] = [0, 70, 140, 210, 310, 410, 520, 630, 753, 877, 1000];
+/// 45(1): those for timber, in per cent.
+const TIMBER_SHARES: [i64; 11] = [20, 31, 42, 53, 64, 70, 76, 82, 88, 94, 100];
+
 /// The exact summer freeboard and its two sources.
 pub fn exact(ship: &Ship) -> Exact {
     let l = over(ship.length, 1000);
-    let s: Fraction = enclosed(ship).map(|house| plain_length(house, &l)).sum();
     let e: Fraction = enclosed(ship).map(|house| effective_length(house, &l)).sum();
-    let full = (tabular(ship, &l) + short_b_addition(ship, &l, &e)) * fullness(ship);
-    let deep = full + depth_correction(ship, &l);
-    let corrected = deep - houses_deduction(ship, &l, &e) - sheer_deduction(ship, &l, &s);
+    let corrected = corrected(ship, ship.kind, SHARES.map(|mille| over(mille, 1000)), &e);
     let bow = bow_freeboard(ship, &l);
     // 40
     let least = if ship.kind == Kind::Covers { whole(150) } else { whole(50) };
     let summer = corrected.clone().max(bow.clone()).max(least);
     Exact { effective: e, corrected, bow, summer }
+}
+
+/// 45: the exact summer timber freeboard of a type B ship, mm, be it negative or beyond D.
+pub fn timber(ship: &Ship) -> Fraction {
+    let l = over(ship.length, 1000);
+    let e: Fraction = enclosed(ship).map(|house| effective_length(house, &l)).sum();
+    let reduced = matches!(ship.kind, Kind::B60 | Kind::B100);
+    let kind = if reduced { Kind::B } else { ship.kind };
+    corrected(ship, kind, TIMBER_SHARES.map(|per_cent| over(per_cent, 100)), &e)
+}
+
+/// 28 to 38 with the line of this type and these shares of the deduction.
+fn corrected(ship: &Ship, line: Kind, shares: [Fraction; 11], e: &Fraction) -> Fraction {
+    let l = over(ship.length, 1000);
+    let s: Fraction = enclosed(ship).map(|house| plain_length(house, &l)).sum();
+    let full = (tabular(line, ship.length) + short_b_addition(ship, &l, e)) * fullness(ship);
+    let deep = full + depth_correction(ship, &l);
+    deep - houses_deduction(ship, &l, e, shares) - sheer_deduction(ship, &l, &s)
 }
 
 fn enclosed(ship: &Ship) -> impl Iterator<Item = &House> {
@@ -76,11 +97,11 @@ fn limited_cb(ship: &Ship) -> Fraction {
 }
 
 /// 27 and 28: the type's line.
-fn tabular(ship: &Ship, l: &Fraction) -> Fraction {
-    let row = |rows: &[u16], first: usize| between_rows(ship.length, l, rows, first);
+fn tabular(kind: Kind, length: i64) -> Fraction {
+    let row = |rows: &[u16], first: usize| between_rows(length, rows, first);
     let a = row(&table28::TYPE_A, table28::FIRST);
     let b = row(&table28::TYPE_B, table28::FIRST);
-    match ship.kind {
+    match kind {
         Kind::A => a,
         Kind::B => b,
         Kind::B60 => &b - over(60, 100) * (&b - &a),
@@ -89,13 +110,13 @@ fn tabular(ship: &Ship, l: &Fraction) -> Fraction {
     }
 }
 
-/// Linear between the rows about L, in mm and in m; the first row counts for every shorter ship.
-fn between_rows(mm: i64, l: &Fraction, rows: &[u16], first: usize) -> Fraction {
+/// Linear between the rows about L; the first row counts for every shorter ship.
+fn between_rows(mm: i64, rows: &[u16], first: usize) -> Fraction {
     let row = ((mm / 1000) as usize).saturating_sub(first);
     let points: Vec<_> = (row..rows.len().min(row + 2))
         .map(|i| (whole((first + i) as i64), whole(rows[i])))
         .collect();
-    linear(l, &points)
+    linear(&over(mm, 1000), &points)
 }
 
 /// 29
@@ -130,18 +151,16 @@ fn depth_correction(ship: &Ship, l: &Fraction) -> Fraction {
         .map_or(whole(0), |house| correction * ratio_of_heights(house, l))
 }
 
-/// 37
-fn houses_deduction(ship: &Ship, l: &Fraction, e: &Fraction) -> Fraction {
+/// 37, with the share of the full deduction at each tenth of E/L.
+fn houses_deduction(ship: &Ship, l: &Fraction, e: &Fraction, shares: [Fraction; 11]) -> Fraction {
     let long_enough =
         forecastle(ship).is_some_and(|house| effective_length(house, l) >= over(7, 100) * l);
     if ship.kind != Kind::A && !long_enough {
         return whole(0);
     }
     let full = [(24, 350), (85, 860), (122, 1070)].map(|(at, mm)| (whole(at), whole(mm)));
-    let share = [0, 70, 140, 210, 310, 410, 520, 630, 753, 877, 1000];
-    let share: Vec<_> =
-        (0..).zip(share).map(|(tenth, mille)| (over(tenth, 10), over(mille, 1000))).collect();
-    linear(l, &full) * linear(&(e / l), &share)
+    let shares: Vec<_> = (0..).zip(shares).map(|(tenth, share)| (over(tenth, 10), share)).collect();
+    linear(l, &full) * linear(&(e / l), &shares)
 }
 
 /// 38(14) to (16): what is deducted, negative if the sheer is deficient.
@@ -251,6 +270,21 @@ pub fn bound_holds(ship: &Ship) -> bool {
     let mark = whole(marks::steps(ship).summer);
     let exact = exact(ship).summer;
     exact <= mark && mark < exact + over(11, 10)
+}
+
+/// The same of LS, before it is compared with D.
+pub fn timber_bound_holds(ship: &Ship) -> bool {
+    let mark = whole(marks::timber_steps(ship, &marks::steps(ship)).summer);
+    let exact = timber(ship);
+    exact <= mark && mark < exact + over(11, 10)
+}
+
+/// What the roundings cost LS, um: its round-up to mm included, and before it.
+pub fn timber_cost(ship: &Ship) -> (f64, f64) {
+    let steps = marks::timber_steps(ship, &marks::steps(ship));
+    let exact = timber(ship) * whole(1000);
+    let above = |um: i64| (whole(um) - &exact).to_f64();
+    (above(1000 * steps.summer), above(steps.corrected))
 }
 
 /// What the roundings cost on this ship.

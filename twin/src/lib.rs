@@ -1,5 +1,6 @@
 //! Load-line marks of type A and type B ships, 24 to 365 m: a second working of the same rules.
 //! Type B has four kinds: the plain one, two with a reduced table line, and one with portable covers.
+//! Each of them may have timber marks besides.
 //!
 //! The regulation numbers are those of Annex I of the Load Lines Protocol as amended in 2003.
 //! Stations, heights and marks are whole mm; freeboards on the way to a mark are whole

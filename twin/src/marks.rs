@@ -1,4 +1,4 @@
-//! The six ordinary marks, with the roundings that a mark is worked with.
+//! The six ordinary marks and the six timber marks, with the roundings that a mark is worked with.
 //!
 //! "Up" and "down" are toward plus and minus infinity, to whole um. Every product fits an i64; where
 //! one comes near, its bound stands beside it.
@@ -18,6 +18,19 @@ pub struct Marks {
     pub winter_north_atlantic: i64,
     pub fresh: i64,
     pub tropical_fresh: i64,
+    /// If timber freeboards are asked for.
+    pub timber: Option<Timber>,
+}
+
+/// The six timber marks, mm. Any but LWNA may be negative. All are zero where LS would be at or above D.
+#[derive(Clone, Copy, Debug, Default, PartialEq, Eq)]
+pub struct Timber {
+    pub summer: i64,
+    pub tropical: i64,
+    pub winter: i64,
+    pub winter_north_atlantic: i64,
+    pub fresh: i64,
+    pub tropical_fresh: i64,
 }
 
 impl fmt::Display for Marks {
@@ -25,6 +38,25 @@ impl fmt::Display for Marks {
         write!(
             f,
             "S {} T {} W {} WNA {} F {} TF {}",
+            self.summer,
+            self.tropical,
+            self.winter,
+            self.winter_north_atlantic,
+            self.fresh,
+            self.tropical_fresh
+        )?;
+        match &self.timber {
+            Some(timber) => write!(f, " {timber}"),
+            None => Ok(()),
+        }
+    }
+}
+
+impl fmt::Display for Timber {
+    fn fmt(&self, f: &mut fmt::Formatter) -> fmt::Result {
+        write!(
+            f,
+            "LS {} LT {} LW {} LWNA {} LF {} LTF {}",
             self.summer,
             self.tropical,
             self.winter,
@@ -72,6 +104,21 @@ pub struct Steps {
     pub summer: i64,
 }
 
+/// The steps to the summer timber mark that are not those to the summer mark; um unless said otherwise.
+#[derive(Clone, Debug, PartialEq, Eq)]
+pub struct TimberSteps {
+    /// Regulations 27 and 28: the type's line, B's for a reduced ship.
+    pub table: i64,
+    /// Table and addition for short B ships, after regulation 30.
+    pub fullness: i64,
+    /// Regulation 37 with the percentages of 45(1).
+    pub deduction: i64,
+    /// Freeboard after regulations 28 to 38.
+    pub corrected: i64,
+    /// LS, mm, be it at or above D.
+    pub summer: i64,
+}
+
 /// Quotient rounded down; the divisor is above zero.
 fn down(number: i64, divisor: i64) -> i64 {
     number.div_euclid(divisor)
@@ -82,9 +129,21 @@ fn up(number: i64, divisor: i64) -> i64 {
     -down(-number, divisor)
 }
 
-/// The six marks, or refusal 12 or 13.
+/// The marks, or refusal 12 or 13.
 pub fn marks(ship: &Ship) -> Result<Marks, Refusal> {
-    let summer = steps(ship).summer;
+    let steps = steps(ship);
+    let ordinary = ordinary(ship, steps.summer)?;
+    let timber = ship.timber.then(|| timber(ship, &steps, &ordinary));
+    Ok(Marks { timber, ..ordinary })
+}
+
+/// The summer mark alone, or refusal 12 or 13.
+pub fn summer(ship: &Ship) -> Result<i64, Refusal> {
+    ordinary(ship, steps(ship).summer).map(|marks| marks.summer)
+}
+
+/// The six ordinary marks, or refusal 12 or 13. The timber flag is not looked at.
+fn ordinary(ship: &Ship, summer: i64) -> Result<Marks, Refusal> {
     let draught = ship.depth - summer;
     Refusal::unless(draught > 0, Refusal::MARK_AT_DECK)?;
     // 40(7), and 40(8) if not certified.
@@ -102,7 +161,47 @@ pub fn marks(ship: &Ship) -> Result<Marks, Refusal> {
         winter_north_atlantic: if ship.length <= 100_000 { winter + 50 } else { winter }, // 40(6)
         fresh: summer - allowance,
         tropical_fresh: tropical - allowance,
+        timber: None,
     })
+}
+
+/// Regulation 45: the timber marks of a type B ship with these steps and ordinary marks.
+fn timber(ship: &Ship, steps: &Steps, ordinary: &Marks) -> Timber {
+    let summer = timber_steps(ship, steps).summer;
+    let draught = ship.depth - summer;
+    if draught <= 0 {
+        return Timber::default();
+    }
+    let part = down(draught, 48);
+    let tropical = summer - part; // 45(4)
+    let winter = summer + up(draught, 36); // 45(2)
+    Timber {
+        summer,
+        tropical,
+        winter: match ship.kind {
+            Kind::B60 | Kind::B100 => winter.min(ordinary.winter), // 45(7)
+            _ => winter,
+        },
+        winter_north_atlantic: ordinary.winter_north_atlantic, // 45(3)
+        // 45(5) and 40(8): a displacement is certified at the summer load line, not at the timber one.
+        fresh: summer - part,
+        tropical_fresh: tropical - part,
+    }
+}
+
+/// The steps to the summer timber mark, from those to the summer mark. No bow height is asked for (39(1)),
+/// and there is no floor.
+pub fn timber_steps(ship: &Ship, steps: &Steps) -> TimberSteps {
+    let line = match ship.kind {
+        Kind::B60 | Kind::B100 => Kind::B, // 45(6)
+        kind => kind,
+    };
+    let table = tabular(line, ship.length);
+    let fullness = after_fullness(ship, table + steps.short_b);
+    let deduction = houses_deduction(ship, steps.effective, steps.forecastle, &TIMBER_PERCENTAGES);
+    let corrected = fullness + steps.depth - steps.depth_reduction - deduction + steps.sheer_added
+        - steps.sheer_deducted;
+    TimberSteps { table, fullness, deduction, corrected, summer: up(corrected, 1000) }
 }
 
 /// The steps to the summer mark.
@@ -116,7 +215,7 @@ pub fn steps(ship: &Ship) -> Steps {
     let fullness = after_fullness(ship, table + short_b);
     let depth = depth_addition(length, ship.depth);
     let depth_reduction = depth_reduction(ship, length);
-    let deduction = houses_deduction(ship, length, effective, forecastle);
+    let deduction = houses_deduction(ship, effective, forecastle, &PERCENTAGES);
     let sheer_mean = mean_excess_of_sheer(&ship.sheer, length);
     let cover_reach = cover_reach(ship, length);
     let (sheer_added, sheer_deducted) = sheer_correction(sheer_mean, length, covered, cover_reach);
@@ -294,6 +393,9 @@ fn depth_reduction(ship: &Ship, length: i64) -> i64 {
 /// Regulation 37: the percentages at each tenth of E/L, in tenths of a per cent.
 const PERCENTAGES: [i64; 11] = [0, 70, 140, 210, 310, 410, 520, 630, 753, 877, 1000];
 
+/// Regulation 45(1): those that stand in their place for timber.
+const TIMBER_PERCENTAGES: [i64; 11] = [200, 310, 420, 530, 640, 700, 760, 820, 880, 940, 1000];
+
 /// Regulation 37(1): deduction where E is L, down.
 fn full_deduction(length: i64) -> i64 {
     match length {
@@ -304,24 +406,31 @@ fn full_deduction(length: i64) -> i64 {
 }
 
 /// Regulation 37(2): the share of the full deduction in millionths, down.
-fn deduction_share(length: i64, effective: i64) -> i64 {
+fn deduction_share(length: i64, effective: i64, percentages: &[i64; 11]) -> i64 {
     let tenth = 100 * length; // 0.1 L in um
     let (below, beyond) = (effective / tenth, effective % tenth);
-    match PERCENTAGES[below as usize..] {
+    match percentages[below as usize..] {
         [low, high, ..] => 1000 * low + down(1000 * (high - low) * beyond, tenth),
         _ => 1_000_000,
     }
 }
 
-/// Regulation 37: what the houses take off, down.
-fn houses_deduction(ship: &Ship, length: i64, effective: i64, forecastle: Option<usize>) -> i64 {
+/// Regulation 37: what the houses take off with these percentages, down.
+fn houses_deduction(
+    ship: &Ship,
+    effective: i64,
+    forecastle: Option<usize>,
+    percentages: &[i64; 11],
+) -> i64 {
+    let length = ship.length;
     // 37(3), on the fraction itself.
     let long_enough = forecastle.is_some_and(|place| {
         let (um, parts) = effective_length(&ship.houses[place], length);
         um >= 70 * length * parts
     });
     if ship.kind.is_a() || long_enough {
-        down(full_deduction(length) * deduction_share(length, effective), 1_000_000)
+        let share = deduction_share(length, effective, percentages);
+        down(full_deduction(length) * share, 1_000_000)
     } else {
         0
     }

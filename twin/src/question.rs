@@ -4,7 +4,8 @@ use crate::marks;
 use crate::record::{self, House, Ship, MAX_HOUSES};
 use crate::refusal::Refusal;
 
-/// The shortest poop in dm, from a record: refusals 1 to 11, 18, 22 and 23, then 14, 15, 16.
+/// The shortest poop in dm, from a record: refusals 1 to 11, 18 and 22 to 24, then 14, 15, 16. Of the
+/// timber flag nothing but 24 matters: the wish is for the ordinary summer mark.
 pub fn shortest_poop(bytes: &[u8], height: u64, wish: u64) -> Result<i64, Refusal> {
     shortest_poop_of(&record::read(bytes)?, height, wish)
 }
@@ -47,5 +48,5 @@ fn with_poop(ship: &Ship, height: u64, k: i64) -> Ship {
 
 fn summer(ship: &Ship) -> Result<i64, Refusal> {
     record::check_houses(ship.length, &ship.houses)?;
-    marks::marks(ship).map(|marks| marks.summer)
+    marks::summer(ship)
 }

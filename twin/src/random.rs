@@ -1,7 +1,9 @@
 //! Random ships from a seed, the same ones on every machine.
 
+mod timber;
+
 use crate::marks::{self, standard_height};
-use crate::record::{House, RawShip};
+use crate::record::{House, RawShip, Ship};
 
 /// A small generator (splitmix64).
 pub struct Random(u64);
@@ -214,25 +216,15 @@ impl Random {
     /// A depth for which S, or T, comes to so many mm or just above before the floor.
     fn depth_for(&mut self, raw: &RawShip, mm: i64) -> Option<u64> {
         let tropical = self.once_in(2);
-        let comes_to = |depth: i64| {
-            let ship = RawShip { depth: depth as u64, ..raw.clone() }.check().ok()?;
-            let steps = marks::steps(&ship);
+        least_depth(raw, mm, |ship| {
+            let steps = marks::steps(ship);
             let summer = steps.corrected.max(steps.bow).div_euclid(1000);
-            Some(if tropical { summer - (depth - summer).div_euclid(48) } else { summer })
-        };
-        // Either rises with the depth, as long as the rate is above 1/49.
-        let (mut low, mut high) = (1_000, 30_000);
-        if comes_to(low)? > mm || comes_to(high)? < mm {
-            return None;
-        }
-        while high - low > 1 {
-            let middle = (low + high) / 2;
-            match comes_to(middle)? < mm {
-                true => low = middle,
-                false => high = middle,
+            if tropical {
+                summer - (ship.depth - summer).div_euclid(48)
+            } else {
+                summer
             }
-        }
-        Some(high as u64)
+        })
     }
 
     /// A length of this type: often where refusal 22 or a table's rule begins or ends, or between two
@@ -499,6 +491,24 @@ impl Random {
             _ => (house.breadth, house.beam) = self.bad_breadths(),
         }
     }
+}
+
+/// The least depth for which the ship comes to so many mm, of what rises with the depth.
+fn least_depth(raw: &RawShip, mm: i64, comes_to: impl Fn(&Ship) -> i64) -> Option<u64> {
+    let of = |depth: u64| Some(comes_to(&RawShip { depth, ..raw.clone() }.check().ok()?));
+    // S and T rise as long as the rate is above 1/49.
+    let (mut low, mut high) = (1_000, 30_000);
+    if of(low)? > mm || of(high)? < mm {
+        return None;
+    }
+    while high - low > 1 {
+        let middle = (low + high) / 2;
+        match of(middle)? < mm {
+            true => low = middle,
+            false => high = middle,
+        }
+    }
+    Some(high)
 }
 
 /// The least breadth of a house that refusal 23 lets pass: 0.92 of the ship's, up.

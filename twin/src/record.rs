@@ -1,6 +1,7 @@
-//! The ship record, versions 1 to 3: 27 bytes, then 8 for each house, in version 3 12, bit-packed.
-//! Versions 2 and 3 have one more bit for the type in the header's first two bytes and one fewer spare.
-//! Version 3 has two breadths behind each house's eight bytes; in the others every house has full breadth.
+//! The ship record, versions 1 to 4: 27 bytes, then 8 for each house, in versions 3 and 4 12, bit-packed.
+//! From version 2 on there is one more bit for the type in the header's first two bytes and one fewer spare.
+//! From version 3 on two breadths stand behind each house's eight bytes; before it every house has full
+//! breadth. Version 4 has the timber flag in its first spare bit; the others have none.
 
 use std::ops::{Deref, DerefMut};
 
@@ -12,10 +13,10 @@ pub const MAX_HOUSES: usize = 8;
 /// Version, type, number of houses and spare bits.
 const HEAD_BITS: usize = 16;
 pub const HEADER_BYTES: usize = 27;
-/// Bytes of a house; in version 3 its breadths follow.
+/// Bytes of a house; from version 3 on its breadths follow.
 pub const HOUSE_BYTES: usize = 8;
 const BREADTHS_BYTES: usize = 4;
-/// Of the longest record, one of version 3.
+/// Of the longest record, one of version 3 or 4.
 pub const MOST_BYTES: usize = HEADER_BYTES + (HOUSE_BYTES + BREADTHS_BYTES) * MAX_HOUSES;
 /// The greatest breadth that a record holds, mm.
 const MOST_BREADTH: u64 = 65_535;
@@ -56,16 +57,18 @@ impl Kind {
     }
 }
 
-/// How many bits of the head's first two bytes are the type's and spare, and how many bytes a house has.
+/// How many bits of the head's first two bytes are the type's, the timber flag's and spare, and how many
+/// bytes a house has.
 #[derive(Clone, Copy, Debug, PartialEq, Eq)]
 pub enum Version {
     One = 1,
     Two = 2,
     Three = 3,
+    Four = 4,
 }
 
 impl Version {
-    pub const ALL: [Version; 3] = [Version::One, Version::Two, Version::Three];
+    pub const ALL: [Version; 4] = [Version::One, Version::Two, Version::Three, Version::Four];
 
     /// The version with this number, if there is one.
     pub fn of(number: u64) -> Option<Version> {
@@ -76,6 +79,7 @@ impl Version {
     pub fn lowest(raw: &RawShip) -> Version {
         let n = raw.n.min(MAX_HOUSES as u64) as usize;
         match raw.kind {
+            _ if raw.timber => Version::Four,
             _ if any_set_in(&raw.houses[..n]) => Version::Three,
             0 | 1 => Version::One,
             _ => Version::Two,
@@ -87,22 +91,33 @@ impl Version {
         match self {
             Version::One => (2, 6),
             Version::Two | Version::Three => (3, 5),
+            Version::Four => (3, 4),
         }
+    }
+
+    /// A bit of its head is the timber flag.
+    fn has_flag(self) -> bool {
+        self == Version::Four
+    }
+
+    /// Its houses have breadths.
+    fn has_breadths(self) -> bool {
+        matches!(self, Version::Three | Version::Four)
     }
 
     /// The greatest type.
     fn last_kind(self) -> u64 {
         match self {
             Version::One => 1,
-            Version::Two | Version::Three => 4,
+            Version::Two | Version::Three | Version::Four => 4,
         }
     }
 
     /// Bytes of a house.
     pub fn house_bytes(self) -> usize {
-        match self {
-            Version::One | Version::Two => HOUSE_BYTES,
-            Version::Three => HOUSE_BYTES + BREADTHS_BYTES,
+        match self.has_breadths() {
+            true => HOUSE_BYTES + BREADTHS_BYTES,
+            false => HOUSE_BYTES,
         }
     }
 
@@ -182,6 +197,8 @@ pub struct RawShip {
     pub kind: u64,
     /// Houses that count; the places beyond are ignored.
     pub n: u64,
+    /// Timber freeboards are asked for.
+    pub timber: bool,
     /// L, mm (field 1).
     pub length: u64,
     /// D, depth for freeboard, mm (field 2).
@@ -201,10 +218,12 @@ pub struct RawShip {
     pub houses: [House; MAX_HOUSES],
 }
 
-/// A ship that passed refusals 3, 4, 7 to 11, 18, 22 and 23.
+/// A ship that passed refusals 3, 4, 7 to 11, 18 and 22 to 24.
 #[derive(Clone, Debug, PartialEq, Eq)]
 pub struct Ship {
     pub kind: Kind,
+    /// Timber freeboards are asked for; never of type A.
+    pub timber: bool,
     pub length: i64,
     pub depth: i64,
     pub moulded: i64,
@@ -216,7 +235,7 @@ pub struct Ship {
     pub houses: Houses,
 }
 
-/// Reads a record of any version: refusals 1 to 11, 18, 22 and 23.
+/// Reads a record of any version: refusals 1 to 11, 18 and 22 to 24.
 pub fn read(bytes: &[u8]) -> Result<Ship, Refusal> {
     Refusal::unless(bytes.len() >= HEADER_BYTES, Refusal::SHORT_RECORD)?;
     let mut head = BitReader::new(&bytes[..HEADER_BYTES]);
@@ -224,13 +243,14 @@ pub fn read(bytes: &[u8]) -> Result<Ship, Refusal> {
     let (kind_bits, spare_bits) = version.widths();
     let kind = head.take(kind_bits);
     let n = head.take(4);
+    let timber = version.has_flag() && head.take(1) == 1;
     let spare = head.take(spare_bits);
     Refusal::unless(kind <= version.last_kind(), Refusal::KIND)?;
-    let (_, count) = kind_and_count(kind, n)?;
+    let (_, count) = kind_and_count(kind, timber, n)?;
     Refusal::unless(bytes.len() == version.record_bytes(count), Refusal::RECORD_LENGTH)?;
     let (raw, house_spare) = unpack(version, bytes);
     Refusal::unless(spare | house_spare == 0, Refusal::SPARE_BIT)?;
-    RawShip { kind, n, ..raw }.check()
+    RawShip { kind, n, timber, ..raw }.check()
 }
 
 /// What stands after the head, unchecked: the fields, the houses there are bytes for, and all spare
@@ -262,14 +282,14 @@ pub fn unpack(version: Version, bytes: &[u8]) -> (RawShip, u64) {
             ..House::default()
         };
         spare |= fields.take(7);
-        if version == Version::Three {
+        if version.has_breadths() {
             (house.breadth, house.beam) = (fields.take(16), fields.take(16));
         }
     }
     (raw, spare)
 }
 
-/// Writes a ship in the lowest version that holds it: refusals 3, 4, 7 to 11, 18, 22 and 23, and 17
+/// Writes a ship in the lowest version that holds it: refusals 3, 4, 7 to 11, 18 and 22 to 24, and 17
 /// last. Gives the record's length. A refusal changes no byte; an accepted write changes the record's
 /// bytes only.
 pub fn write(buffer: &mut [u8], raw: &RawShip) -> Result<usize, Refusal> {
@@ -290,6 +310,9 @@ pub fn pack_as(version: Version, record: &mut [u8], raw: &RawShip) {
     fields.put(4, version as u64);
     fields.put(kind_bits, raw.kind);
     fields.put(4, raw.n);
+    if version.has_flag() {
+        fields.put(1, raw.timber.into());
+    }
     fields.put(spare_bits, 0);
     fields.put(20, raw.length);
     fields.put(16, raw.depth);
@@ -309,7 +332,7 @@ pub fn pack_as(version: Version, record: &mut [u8], raw: &RawShip) {
         fields.put_signed(21, house.fore);
         fields.put(13, house.height);
         fields.put(7, 0);
-        if version == Version::Three {
+        if version.has_breadths() {
             fields.put(16, house.breadth);
             fields.put(16, house.beam);
         }
@@ -317,12 +340,13 @@ pub fn pack_as(version: Version, record: &mut [u8], raw: &RawShip) {
 }
 
 impl RawShip {
-    /// The ship, if it passes refusals 3, 4, 7 to 11, 18, 22 and 23.
+    /// The ship, if it passes refusals 3, 4, 7 to 11, 18 and 22 to 24.
     pub fn check(&self) -> Result<Ship, Refusal> {
         let (kind, count) = self.check_all()?;
         // All fields are below 2^20 by now.
         Ok(Ship {
             kind,
+            timber: self.timber,
             length: self.length as i64,
             depth: self.depth as i64,
             moulded: self.moulded as i64,
@@ -335,9 +359,9 @@ impl RawShip {
         })
     }
 
-    /// Refusals 3, 4, 7, 22, 8, 9, 23, 10, 11 and 18; what numbers that pass say of the kind and the houses.
+    /// Refusals 3, 24, 4, 7, 22, 8, 9, 23, 10, 11 and 18; what numbers that pass say of the kind and the houses.
     fn check_all(&self) -> Result<(Kind, usize), Refusal> {
-        let (kind, count) = kind_and_count(self.kind, self.n)?;
+        let (kind, count) = kind_and_count(self.kind, self.timber, self.n)?;
         self.check_fields()?;
         Refusal::unless(kind.has_length(self.length), Refusal::KIND_LENGTH)?;
         let certified = (self.displacement != 0, self.immersion != 0);
@@ -368,6 +392,7 @@ impl Ship {
         RawShip {
             kind: self.kind as u64,
             n: self.houses.len() as u64,
+            timber: self.timber,
             length: self.length as u64,
             depth: self.depth as u64,
             moulded: self.moulded as u64,
@@ -381,9 +406,10 @@ impl Ship {
     }
 }
 
-/// Refusals 3 and 4.
-fn kind_and_count(kind: u64, n: u64) -> Result<(Kind, usize), Refusal> {
+/// Refusals 3, 24 and 4.
+fn kind_and_count(kind: u64, timber: bool, n: u64) -> Result<(Kind, usize), Refusal> {
     let kind = Kind::of(kind).ok_or(Refusal::at(Refusal::KIND, 0))?;
+    Refusal::unless(!(timber && kind.is_a()), Refusal::TIMBER)?;
     Refusal::unless(n <= MAX_HOUSES as u64, Refusal::TOO_MANY_HOUSES)?;
     Ok((kind, n as usize))
 }

@@ -1,6 +1,6 @@
-//! The twenty refusals, 1 to 18, 22 and 23. The order of their numbers is the order of the checks, but
-//! for three: 18 stands where 11 does, and one check gives either; 22 stands between 7 and 8, and 23
-//! between 9 and 10.
+//! The twenty-one refusals, 1 to 18 and 22 to 24. The order of their numbers is the order of the checks,
+//! but for four: 18 stands where 11 does, and one check gives either; 22 stands between 7 and 8, 23
+//! between 9 and 10, and 24 between 3 and 4.
 
 use std::fmt;
 
@@ -35,6 +35,7 @@ impl Refusal {
     pub const OUT_OF_ORDER: u8 = 18;
     pub const KIND_LENGTH: u8 = 22;
     pub const BREADTHS: u8 = 23;
+    pub const TIMBER: u8 = 24;
 
     /// A refusal at a named place: a field from 1, or a house from 0.
     pub fn at(number: u8, place: usize) -> Refusal {

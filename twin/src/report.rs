@@ -33,8 +33,9 @@ pub fn hex(bytes: &[u8]) -> String {
 
 pub fn ship_line(ship: &Ship) -> String {
     let [a, b, c, d, e, f] = ship.sheer;
+    let timber = if ship.timber { " timber" } else { "" };
     let mut line = format!(
-        "type {} L {} D {} M {} Cb {} Cwf {} sheer {a} {b} {c} {d} {e} {f} certified {} {} houses {}",
+        "type {}{timber} L {} D {} M {} Cb {} Cwf {} sheer {a} {b} {c} {d} {e} {f} certified {} {} houses {}",
         ship.kind as u8,
         ship.length,
         ship.depth,
@@ -69,11 +70,14 @@ pub struct Trial {
 }
 
 const NUMBERS: usize = 16 + 7 * MAX_HOUSES;
+/// A number behind them that says that the ship has the timber flag.
+const FLAG: u64 = 1;
 const SHEER_SHIFT: i64 = 8_192;
 const STATION_SHIFT: i64 = 1_048_576;
 
 impl Trial {
-    /// The trial as 72 numbers of 8 bytes, most significant first. Signed numbers are shifted.
+    /// The trial as 72 numbers of 8 bytes, most significant first, and one more for the timber flag.
+    /// Signed numbers are shifted.
     pub fn to_bytes(&self) -> Vec<u8> {
         let s = &self.ship;
         let mut numbers = vec![self.buffer, s.kind, s.n, s.length, s.depth, s.moulded, s.cb, s.cwf];
@@ -85,14 +89,18 @@ impl Trial {
             numbers.extend([enclosed, quarterdeck, station(h.aft), station(h.fore), h.height]);
             numbers.extend([h.breadth, h.beam]);
         }
+        numbers.extend(s.timber.then_some(FLAG));
         numbers.iter().flat_map(|number| number.to_be_bytes()).collect()
     }
 
-    /// The other way; nothing if the bytes are not 72 numbers or the buffer is above 128 bytes.
+    /// The other way; nothing if the bytes are not so many numbers or the buffer is above 128 bytes.
     pub fn from_bytes(bytes: &[u8]) -> Option<Trial> {
-        if bytes.len() != 8 * NUMBERS {
-            return None;
-        }
+        let (bytes, last) = bytes.split_at_checked(8 * NUMBERS)?;
+        let timber = match last {
+            [] => false,
+            _ if *last == FLAG.to_be_bytes() => true,
+            _ => return None,
+        };
         let mut numbers =
             bytes.chunks_exact(8).map(|part| part.iter().fold(0, |n, &b| n << 8 | u64::from(b)));
         let mut next = || numbers.next().unwrap_or(0);
@@ -101,6 +109,7 @@ impl Trial {
             ship: RawShip {
                 kind: next(),
                 n: next(),
+                timber,
                 length: next(),
                 depth: next(),
                 moulded: next(),

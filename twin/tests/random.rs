@@ -1,4 +1,4 @@
-//! What is drawn of ships below L/15, of the five types, and of houses that are set in.
+//! What is drawn of ships below L/15, of the five types, of houses that are set in, and of the timber flag.
 
 mod common;
 
@@ -111,6 +111,26 @@ fn share_of_set_in_houses() {
         let seen = ships.iter().map(counts).filter(|&(all, some)| sort(all, some)).count();
         assert!(seen >= 200, "{seen}");
     }
+}
+
+/// The flag is on about a third of the type B ships, on all that are about timber, and never on
+/// one of type A.
+#[test]
+fn share_of_timber() {
+    let mut random = Random::new(45);
+    let mut seen = [[0_i32; 2]; 5];
+    for i in 0..9_000 {
+        let mut raw = random.any_ship(i % 9);
+        random.flag_at_times(&mut raw);
+        let ship = ship(&raw);
+        seen[ship.kind as usize][usize::from(ship.timber)] += 1;
+    }
+    assert_eq!(seen[0][1], 0);
+    assert!(seen[1..].iter().all(|[no, yes]| (2 * yes - no).abs() < no / 4), "{seen:?}");
+    let ships = (0..9_000).map(|i| ship(&random.any_ship_or_timber(i % 9)));
+    let timber = ships.filter(|ship| ship.timber).count();
+    assert!((3_500..4_500).contains(&timber), "{timber}");
+    assert!((0..900).all(|i| ship(&random.timber_ship(i % 9)).timber));
 }
 
 /// Every type at the borders of its line, on both sides of Cb 0.68, and about both floors.

@@ -94,7 +94,7 @@ fn version_3_without_breadths() {
     }
 }
 
-/// 27+12n bytes in version 3, 27+8n in the others.
+/// 27+12n bytes in versions 3 and 4, 27+8n in the others.
 #[test]
 fn lengths_of_records() {
     for n in 0..=8 {
@@ -102,7 +102,7 @@ fn lengths_of_records() {
         let raw = with(k1(), &houses);
         for version in Version::ALL {
             let record = packed_as(version, &raw);
-            let bytes = 27 + if version == Version::Three { 12 } else { 8 } * n;
+            let bytes = 27 + if version as u8 > 2 { 12 } else { 8 } * n;
             for length in 27..=MOST_BYTES + 13 {
                 let mut other = record.clone();
                 other.resize(length, 0);

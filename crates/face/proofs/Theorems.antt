@@ -21,7 +21,7 @@ use Rattle.record.specs.Reading.{frameLines, readingIn}
 use Rattle.record.specs.Writing.{bytesFor, writeLines, writingOf, written}
 use Rattle.record.proofs.RoundTrip as RoundTrip
 use Rattle.record.proofs.Theorems.{read-what-was-written, write-what-was-read, written-reads-same}
-use Rattle.marks.specs.Marks.{sheetIn}
+use Rattle.marks.specs.Marks.{answerIn}
 use Rattle.question.specs.Question.{replyIn}
 use Rattle.flat.specs.declared.FlatShip.{FlatShip}
 use Rattle.flat.specs.Flat.{shipOf, ordinateFrom, houseFrom, shipFrom, flatClean, flatZero}
@@ -50,7 +50,7 @@ module _ (buf : List ℕ) (x : Ship) (shaped : RoundTrip.Shaped x) (z : writingO
   passed = all-pass (writeLines (length buf) x) (omega arith) z
 
   good-ship : Good x
-  good-ship = good x (ap (λ (p : Paper). p .number) (first-passed (shipLines x) (all-pass-split (shipLines x) ((ltb (length buf) (bytesFor x), refused 17 0) ∷ []) (passed .1 .1) .0)))
+  good-ship = good x (ap (λ (p : Paper). p .number) (first-passed (shipLines x) (all-pass-split (shipLines x) ((ltb (length buf) (bytesFor x), refused 17 0) ∷ []) (passed .1 .1 .1) .0)))
 
   wrote : writingOf (length buf) x ≡ accepted
   unfolding writingOf
@@ -126,7 +126,7 @@ module _ (s : List ℕ) (a : ReadAnswer) (e : a ≡ fromReading (readingIn s)) (
       ∙ ap fromReading (w .1 ∙ sym whole) ∙ sym e
 
 -- ---- one answer
-pub one-marks : (s : List ℕ) (a b : MarksAnswer) → a ≡ fromSheet (sheetIn s) → b ≡ fromSheet (sheetIn s) → a ≡ b
+pub one-marks : (s : List ℕ) (a b : MarksAnswer) → a ≡ fromSheet (answerIn s) → b ≡ fromSheet (answerIn s) → a ≡ b
 one-marks s a b p q = p ∙ sym q
 
 pub one-poop : (s : List ℕ) (height wish : ℕ) (a b : PoopAnswer) → a ≡ fromReply (replyIn s height wish) → b ≡ fromReply (replyIn s height wish) → a ≡ b

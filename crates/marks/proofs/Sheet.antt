@@ -4,7 +4,7 @@ use mathlib.Core.Bool.{Bool, true, false, _&&_}
 use mathlib.Core.List.{List}
 use mathlib.Core.Path.{_≡_, sym, ap, _∙_}
 use lib.Dec.{eqb}
-use borrow.Author.Tests.{ne-eqb}
+use borrow.Author.Tests.{eq-eqb, ne-eqb}
 use Rattle.whole.proofs.Pick.{pick-false}
 use Rattle.ship.specs.declared.Ship.{Ship}
 use Rattle.ship.specs.declared.refusal.Refusal.{Refusal}
@@ -77,6 +77,13 @@ module _ (x : Ship) where
   pub with-refusal : (r : Refusal) → sheet (Ordinarily.Refused r) ≡ sheetFor x → Whole.sheet (Refused r) ≡ answerFor x
   unfolding answerFor
   with-refusal r o = Wholly.sheet-refused r (x .timber) (timberMarksOf x noMarks) ∙ (λ i. sheetWith (o i) (x .timber) (timberMarksOf x (o i .marks)))
+
+-- marks without timber marks are those of a record without the flag
+pub no-flag : (s : List ℕ) (m : Marks) → Whole.sheet (Given m) ≡ answerIn s → shipIn s .timber ≡ false
+unfolding answerIn sheetWith
+no-flag s m e =
+    let n : sheetIn s .verdict .number ≡ 0 = sym (ap (λ (a : Whole.Sheet). a .ordinary .verdict .number) e) in
+    sym (ap (λ (a : Whole.Sheet). a .asked) e ∙ ap (λ (b : Bool). b && shipIn s .timber) (eq-eqb (sheetIn s .verdict .number) 0 n))
 
 -- beside a refusal, whichever it is, all six marks are zero, and all six timber marks
 pub zero-beside-refusal : (s : List ℕ) → ¬ (answerIn s .ordinary .verdict .number ≡ 0) → (answerIn s .ordinary .marks ≡ noMarks) × (answerIn s .timber ≡ noTimber)

@@ -14,6 +14,12 @@ pub struct MarksAnswer {
     pub wna: i64,
     pub f: i64,
     pub tf: i64,
+    pub ls: i64,
+    pub lt: i64,
+    pub lw: i64,
+    pub lwna: i64,
+    pub lf: i64,
+    pub ltf: i64,
 }
 
 #[repr(C)]
@@ -42,6 +48,7 @@ pub struct FlatHouse {
 pub struct FlatShip {
     pub kind: u64,
     pub n: u64,
+    pub timber: u64,
     pub length: u64,
     pub depth: u64,
     pub moulded: u64,
@@ -139,6 +146,7 @@ impl From<&RawShip> for FlatShip {
         FlatShip {
             kind: raw.kind,
             n: raw.n,
+            timber: raw.timber.into(),
             length: raw.length,
             depth: raw.depth,
             moulded: raw.moulded,

@@ -28,6 +28,12 @@ pub fn ships() -> Vec<Input> {
     (0..SHIPS).map(|i| Input::new(random.any_ship(i % 9), LEAST_WISH)).collect()
 }
 
+/// The type B ships of these with the timber flag.
+pub fn timber_ships() -> Vec<Input> {
+    let flagged = |input: Input| Input::new(RawShip { timber: true, ..input.raw }, LEAST_WISH);
+    ships().into_iter().filter(|input| input.raw.kind != 0).map(flagged).collect()
+}
+
 /// Ships whose wish a poop of 1 to 10 dm meets, and none shorter.
 pub fn early_hits() -> Vec<Input> {
     let mut random = Random::new(1988);

@@ -39,6 +39,8 @@ fn main() {
     println!("{:<32}{:>10}{:>10}{:>8}{earlier}", "call", "archive", "twin", "ratio");
     let ships = inputs::ships();
     row("marks", &ships, sides!(archive_marks, twin_marks));
+    let timber = inputs::timber_ships();
+    row("marks with timber", &timber, sides!(archive_marks, twin_marks));
     row("read", &ships, sides!(archive_read, twin_read));
     row("write", &ships, sides!(archive_write, twin_write));
     let hits = inputs::early_hits();
@@ -72,14 +74,18 @@ fn row(call: &str, inputs: &[Input], sides: &[Pass]) {
 
 /// Times of different work would say nothing.
 fn agree(input: &Input) -> bool {
-    let summer = record::read(&input.record).and_then(|ship| marks::marks(&ship)).map(|m| m.summer);
+    let marks = record::read(&input.record).and_then(|ship| marks::marks(&ship));
+    let timber = marks.ok().and_then(|marks| marks.timber).unwrap_or_default();
     let poop = question::shortest_poop(&input.record, input.height, input.wish);
     let mut buffer = [0; BUFFER];
     let written = Now::write(&mut buffer, &input.flat).bytes as usize;
-    Now::marks(&input.record).s == summer.unwrap_or(0)
+    let given = Now::marks(&input.record);
+    given.s == marks.map_or(0, |marks| marks.summer)
+        && (given.ls, given.ltf) == (timber.summer, timber.tropical_fresh)
         && Now::shortest_poop(&input.record, input.height, input.wish).decimetres as i64
             == poop.unwrap_or(0)
         && Now::read(&input.record).ship.kind == input.raw.kind
+        && Now::read(&input.record).ship.timber == u64::from(input.raw.timber)
         && Now::read(&input.record).ship.length == input.raw.length
         && Now::read(&input.record).ship.houses[0].beam == input.raw.houses[0].beam
         && buffer[..written] == input.record

@@ -10,7 +10,7 @@ const KINDS: [u64; 15] = [0, 1, 2, 3, 4, 5, 6, 7, 8, 9, 12, 256, 1 << 32, (1 << 
 
 /// Puts one of the ship's numbers at a border or one beyond.
 pub fn put(random: &mut Random, raw: &mut RawShip) {
-    match random.between(1, 16) {
+    match random.between(1, 17) {
         1 if random.once_in(2) => {
             raw.length = random.pick(&[100_000, 100_001, 200_000, 200_001]);
         }
@@ -27,6 +27,7 @@ pub fn put(random: &mut Random, raw: &mut RawShip) {
         8 => raw.immersion = random.pick(&[0, 1, (1 << 16) - 1, 1 << 16]),
         9 => raw.kind = random.pick(&KINDS),
         10 => raw.n = random.pick(&[0, 7, 8, 9, 15]),
+        11 => raw.timber ^= true,
         _ => put_house(random, raw),
     }
 }

@@ -13,7 +13,7 @@ pub const MEMORY: usize = GUARD + ROOM + GUARD;
 /// Numbers that every answer begins with: refusal, place, overlap.
 pub const REFUSAL: usize = 3;
 /// Numbers of an answer to each call.
-pub const MARKS: usize = REFUSAL + 6;
+pub const MARKS: usize = REFUSAL + 12;
 pub const READ: usize = REFUSAL + SHIP;
 pub const WRITE: usize = REFUSAL + 1;
 pub const POOP: usize = REFUSAL + 1;
@@ -100,7 +100,7 @@ mod tests {
     #[test]
     fn sizes() {
         let input = Input::draw(&mut Random::new(1));
-        assert_eq!(batch(&[input]).len(), 8 + 960);
-        assert_eq!(ANSWER, 1304);
+        assert_eq!(batch(&[input]).len(), 8 + 968);
+        assert_eq!(ANSWER, 1360);
     }
 }

@@ -1,4 +1,5 @@
 //! Records and ships about refusals 2, 3, 5, 6 and 22: types, versions, and lengths where one of them ends.
+//! Some have the timber flag.
 
 use twin::bits;
 use twin::random::Random;
@@ -16,6 +17,7 @@ pub fn ship(random: &mut Random, n: usize) -> RawShip {
     };
     let mut raw = RawShip { kind, ..random.ship_of_length(length.max(24_000), n) };
     random.set_in_at_times(&mut raw.houses[..n]);
+    random.flag_at_times(&mut raw);
     match random.between(1, 12) {
         // Refusal 7 by another field, or by the length itself.
         1 => raw.cwf = random.pick(&[0, 10_001]),
@@ -95,12 +97,12 @@ mod tests {
             .filter(|input| input.record().len() >= record::HEADER_BYTES)
     }
 
-    /// Every version, every type in each of the three, and every spare bit.
+    /// Every version, every type in each of the four, and every spare bit.
     #[test]
     fn heads() {
         let mut versions = [0; 16];
-        let mut types = [[0; 8]; 3];
-        let mut spare = [[0; 6]; 3];
+        let mut types = [[0; 8]; 4];
+        let mut spare = [[0; 6]; 4];
         for input in inputs(2) {
             let bytes = input.record();
             let version = bytes[0] >> 4;
@@ -116,17 +118,18 @@ mod tests {
                 }
             }
         }
-        assert!(versions.iter().all(|&n| n >= 100), "{versions:?}");
+        assert!(versions.iter().all(|&n| n >= 80), "{versions:?}");
         let kinds = types[0][..4].iter().chain(types[1..].as_flattened());
-        assert!(kinds.into_iter().all(|&n| n >= 80), "{types:?}");
-        let bits = spare[0].iter().chain(&spare[1][..5]).chain(&spare[2][..5]);
-        assert!(bits.into_iter().all(|&n| n >= 30), "{spare:?}");
+        assert!(kinds.into_iter().all(|&n| n >= 60), "{types:?}");
+        let later = spare[1][..5].iter().chain(&spare[2][..5]).chain(&spare[3][..4]);
+        let bits = spare[0].iter().chain(later);
+        assert!(bits.into_iter().all(|&n| n >= 20), "{spare:?}");
     }
 
     /// What each version comes to.
     #[test]
     fn versions() {
-        let mut seen = [0; 8];
+        let mut seen = [0; 11];
         for input in inputs(3) {
             let version = input.record[0] >> 4;
             let read = record::read(input.record());
@@ -141,10 +144,13 @@ mod tests {
                 number == 3 && version == 1,
                 number == 3 && version == 2,
                 number == 3 && version == 3,
+                number == 0 && version == 4 && lowest,
+                number == 0 && version == 4 && !lowest,
+                number == 3 && version == 4,
             ];
             count(&mut seen, holds);
         }
-        assert!(seen.iter().all(|&n| n >= 300), "{seen:?}");
+        assert!(seen.iter().all(|&n| n >= 200), "{seen:?}");
     }
 
     /// Ships from C have types far beyond those of a record.

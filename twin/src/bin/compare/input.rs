@@ -14,6 +14,7 @@ use crate::heads;
 use crate::lists;
 use crate::sheer;
 use crate::sides;
+use crate::timber;
 
 /// How a record came about.
 #[derive(Clone, Copy)]
@@ -24,6 +25,7 @@ pub enum Kind {
     List,
     Head,
     Side,
+    Timber,
     Damaged,
     Noise,
     Sheer,
@@ -38,6 +40,7 @@ impl fmt::Display for Kind {
             Kind::List => "about overlap and order",
             Kind::Head => "about types and versions",
             Kind::Side => "about set-in sides",
+            Kind::Timber => "about timber",
             Kind::Damaged => "damaged",
             Kind::Noise => "noise",
             Kind::Sheer => "about sheer",
@@ -62,9 +65,10 @@ pub struct Input {
 impl Input {
     pub fn draw(random: &mut Random) -> Input {
         let n = random.between(0, MAX_HOUSES as i64) as usize;
-        let raw = random.any_ship(n);
+        let mut raw = random.any_ship(n);
+        random.flag_at_times(&mut raw);
         let mut input = Input::blank(random);
-        match random.between(1, 34) {
+        match random.between(1, 40) {
             1..=6 => input.pack(random, &raw),
             7..=9 => input.put_whole_mm(random, n),
             10..=14 => input.put_border(random, raw.clone()),
@@ -72,6 +76,7 @@ impl Input {
             20..=24 => input.put_list(random, raw.clone()),
             25..=28 => input.put_head(random, n),
             29..=32 => input.put_side(random, raw.clone()),
+            33..=38 => input.put_timber(random, n),
             _ => input.put_noise(random),
         }
         input.state(random, raw);
@@ -83,7 +88,8 @@ impl Input {
 
     /// One around the borders of sheer.
     pub fn draw_sheer(random: &mut Random) -> Input {
-        let (raw, question) = sheer::ship(random);
+        let (mut raw, question) = sheer::ship(random);
+        random.flag_at_times(&mut raw);
         let mut input = Input::blank(random);
         input.kind = Kind::Sheer;
         input.question = question;
@@ -132,7 +138,8 @@ impl Input {
     }
 
     fn put_whole_mm(&mut self, random: &mut Random, n: usize) {
-        let (raw, question) = fine::ship(random, n);
+        let (mut raw, question) = fine::ship(random, n);
+        random.flag_at_times(&mut raw);
         self.kind = Kind::WholeMm;
         self.question = question;
         self.pack(random, &raw);
@@ -166,7 +173,7 @@ impl Input {
     fn put_head(&mut self, random: &mut Random, n: usize) {
         self.kind = Kind::Head;
         let raw = heads::ship(random, n);
-        let lowest = [Version::lowest(&raw); 3];
+        let lowest = [Version::lowest(&raw); 4];
         self.pack_as(random.pick([lowest, Version::ALL].as_flattened()), &raw);
         heads::damage(random, &mut self.record);
         match random.between(1, 24) {
@@ -185,6 +192,19 @@ impl Input {
         let version = random.pick(&[Version::Three, Version::Three, Version::lowest(&raw)]);
         self.pack_as(version, &raw);
         sides::damage(random, &mut self.record, &mut self.record_length);
+    }
+
+    /// A ship with the timber flag, or one of type A, most often in version 4; bytes of another version at
+    /// times.
+    fn put_timber(&mut self, random: &mut Random, n: usize) {
+        self.kind = Kind::Timber;
+        let raw = timber::ship(random, n);
+        let version = match random.once_in(8) {
+            true => random.pick(&Version::ALL),
+            false => Version::Four,
+        };
+        self.pack_as(version, &raw);
+        timber::damage(random, &mut self.record, &mut self.record_length);
     }
 
     fn put_damaged(&mut self, random: &mut Random, raw: &RawShip) {
@@ -212,10 +232,11 @@ impl Input {
         self.kind = Kind::Noise;
         self.record_length = random.between(0, 130) as usize;
         self.record.fill_with(|| random.number() as u8);
-        match random.between(1, 5) {
+        match random.between(1, 6) {
             1 => self.record[0] = 0x10 | self.record[0] & 0x07, // version 1, type A or B
             2 => self.record[0] = 0x20 | self.record[0] & 0x07, // version 2, types A to B-100
             3 => self.record[0] = 0x30 | self.record[0] & 0x07, // version 3, the same
+            4 => self.record[0] = 0x40 | self.record[0] & 0x07, // version 4, the same
             _ => {}
         }
     }
@@ -239,15 +260,16 @@ fn buffer_length(random: &mut Random, raw: &RawShip) -> usize {
 }
 
 /// The numbers of the ship: as they are, at a border, with another list of houses, about refusals 22
-/// and 23, or any.
+/// to 24, or any.
 fn stated(random: &mut Random, mut raw: RawShip) -> [u64; SHIP] {
-    let kind = random.between(1, 18);
+    let kind = random.between(1, 20);
     match kind {
         5..=7 => border::put(random, &mut raw),
         11 | 12 => lists::put(random, &mut raw),
         13 | 14 => raw = heads::ship(random, raw.n as usize),
         15 | 16 => sides::put(random, &mut raw),
         17 | 18 => sides::put_wide(random, &mut raw),
+        19 | 20 => raw = timber::ship(random, raw.n as usize),
         _ => {}
     }
     let yes = random.pick(&[1, 1, 1, 2, 256, 1 << 32, 1 << 63, u64::MAX]);

@@ -1,8 +1,9 @@
 //! What the twin answers to an input, and where an answer differs from it.
 
+use twin::marks::{self, Marks};
+use twin::question;
 use twin::record::{self, Ship, Version};
 use twin::refusal::Refusal;
-use twin::{marks, question};
 
 use crate::flat;
 use crate::frame::{Answer, Written, GUARD, POOP, REFUSAL, WRITE};
@@ -13,10 +14,7 @@ pub fn worked(input: &Input) -> Answer {
     let read = record::read(input.record());
     let ship = read.as_ref().map_err(|refusal| *refusal);
     Answer {
-        marks: numbers(ship.and_then(marks::marks).map(|m| {
-            [m.summer, m.tropical, m.winter, m.winter_north_atlantic, m.fresh, m.tropical_fresh]
-                .map(|mm| mm as u64)
-        })),
+        marks: numbers(ship.and_then(marks::marks).map(|marks| twelve(&marks))),
         read: numbers(ship.map(|ship| flat::numbers(&ship.raw(), 1))),
         back: written_back(input, ship),
         write: written(input),
@@ -26,6 +24,17 @@ pub fn worked(input: &Input) -> Answer {
         }),
         record: input.record,
     }
+}
+
+/// The ordinary marks, and the timber marks or zeros.
+fn twelve(m: &Marks) -> [u64; 12] {
+    let l = m.timber.unwrap_or_default();
+    let ordinary =
+        [m.summer, m.tropical, m.winter, m.winter_north_atlantic, m.fresh, m.tropical_fresh];
+    let timber =
+        [l.summer, l.tropical, l.winter, l.winter_north_atlantic, l.fresh, l.tropical_fresh];
+    let mut all = ordinary.into_iter().chain(timber);
+    std::array::from_fn(|_| all.next().unwrap_or_default() as u64)
 }
 
 /// Refusal, place and overlap, then what is given: zeros beside a refusal.
@@ -114,4 +123,34 @@ fn decimal(numbers: &[u64]) -> String {
 
 fn hex(bytes: &[u8]) -> String {
     bytes.iter().map(|byte| format!("{byte:02x}")).collect()
+}
+
+#[cfg(test)]
+mod tests {
+    use super::*;
+    use twin::random::Random;
+
+    /// A number that stands where a zero should is a difference: a timber mark beside a refusal, or without
+    /// the flag.
+    #[test]
+    fn timber_marks_beside_a_refusal() {
+        let mut random = Random::new(12);
+        let mut seen = [0; 4];
+        for _ in 0..20_000 {
+            let input = Input::draw(&mut random);
+            let twin = worked(&input);
+            let flag = record::read(input.record()).is_ok_and(|ship| ship.timber);
+            let sorts = [twin.marks[0] == 12, twin.marks[0] == 13, twin.marks[0] == 24];
+            let sorts = [sorts[0] && flag, sorts[1] && flag, sorts[2], twin.marks[0] == 0 && !flag];
+            if !sorts.contains(&true) {
+                continue;
+            }
+            assert_eq!(twin.marks[REFUSAL + 6..], [0; 6]);
+            let mut archive = twin.clone();
+            archive.marks[REFUSAL + 6] = 1;
+            assert!(difference(&input, &archive, &twin).is_some());
+            seen.iter_mut().zip(sorts).for_each(|(count, holds)| *count += u32::from(holds));
+        }
+        assert!(seen[0] >= 20 && seen[1] >= 5 && seen[2] >= 100 && seen[3] >= 1_000, "{seen:?}");
+    }
 }

@@ -15,6 +15,7 @@ mod lists;
 mod sheer;
 mod sides;
 mod tally;
+mod timber;
 
 use std::io::{Read, Write};
 use std::process::{Child, ChildStdin, Command, ExitCode, Stdio};

@@ -72,12 +72,12 @@ pub fn put_wide(random: &mut Random, raw: &mut RawShip) {
 /// Every other time makes a record of bytes that are another version's, or changes a breadth, a spare bit
 /// or the length.
 pub fn damage(random: &mut Random, record: &mut [u8], length: &mut usize) {
-    let version = if record[0] >> 4 == 3 { Version::Three } else { Version::Two };
+    let version = if record[0] >> 4 >= 3 { Version::Three } else { Version::Two };
     let n = (*length - HEADER_BYTES) / version.house_bytes();
     let place = HEADER_BYTES + version.house_bytes() * random.between(0, 7) as usize;
     match random.between(1, 14) {
         // As long as the houses of another version: 27+12n in version 1 or 2, 27+8n in version 3.
-        1 => bits::put_over(record, 0, 4, random.between(2, 4) as u64),
+        1 => bits::put_over(record, 0, 4, random.between(2, 5) as u64),
         2 => {
             bits::put_over(record, 0, 4, 1);
             bits::put_over(record, 4, 2, random.between(0, 1) as u64);
@@ -235,7 +235,7 @@ mod tests {
                 is(&[3]) && eight && number == 5,
                 is(&[1]) && twelve && number == 5,
                 is(&[2]) && twelve && number == 5,
-                is(&[4]) && twelve && number == 2,
+                is(&[5]) && twelve && number == 2,
                 is(&[3]) && number == 0,
                 is(&[3]) && number == 6,
                 is(&[3]) && number == 23,

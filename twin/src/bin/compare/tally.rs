@@ -1,10 +1,10 @@
-//! What was compared, how many marks of each type were in it, how many have a house that is set in or
-//! a reduction for depth, and how often each refusal was seen, 11, 18, 22 and 23 in each call; for
-//! inputs around the borders of sheer, where the marks lie.
+//! What was compared, how many marks of each type were in it, how many have a house that is set in, a
+//! reduction for depth or timber marks, and how often each refusal was seen, 11, 18 and 22 to 24 in each
+//! call; for inputs around the borders of sheer, where the marks lie.
 
 use std::fmt;
 
-use twin::marks::{self, Steps};
+use twin::marks::{self, Steps, Timber};
 use twin::record::{self, Ship};
 
 use crate::frame::{Answer, REFUSAL};
@@ -13,31 +13,32 @@ use crate::judge;
 use crate::sheer;
 
 /// Of records that are not around the borders of sheer.
-const KINDS: [Kind; 8] = [
+const KINDS: [Kind; 9] = [
     Kind::Valid,
     Kind::WholeMm,
     Kind::Border,
     Kind::List,
     Kind::Head,
     Kind::Side,
+    Kind::Timber,
     Kind::Damaged,
     Kind::Noise,
 ];
 const TYPES: [&str; 5] = ["A", "B", "B-60", "B-100", "portable covers"];
 const WRITES_BACK: &str = "writes back";
 const CALLS: [&str; 5] = ["marks", "reads", WRITES_BACK, "writes", "questions"];
-const REFUSALS: [usize; 20] =
-    [1, 2, 3, 4, 5, 6, 7, 22, 8, 9, 23, 10, 11, 18, 12, 13, 14, 15, 16, 17];
+const REFUSALS: [usize; 21] =
+    [1, 2, 3, 24, 4, 5, 6, 7, 22, 8, 9, 23, 10, 11, 18, 12, 13, 14, 15, 16, 17];
 /// Those that are counted by call.
-const LATER: [usize; 4] = [11, 18, 22, 23];
+const LATER: [usize; 5] = [11, 18, 22, 23, 24];
 /// One more than the greatest.
-const NUMBERS: usize = 24;
+const NUMBERS: usize = 25;
 
 #[derive(Default)]
 pub struct Tally {
     pub inputs: u64,
     /// In the order of `Kind`.
-    kinds: [u64; 9],
+    kinds: [u64; 10],
     /// Calls made and accepted, in the order of `CALLS`.
     calls: [(u64, u64); CALLS.len()],
     /// Marks of each type.
@@ -45,17 +46,57 @@ pub struct Tally {
     /// Summer marks at 50 and at 150, the floor of their type.
     floors: [u64; 2],
     /// Records that were read, by version, and how many of each were written back in a lower one.
-    versions: [(u64, u64); 3],
+    versions: [(u64, u64); 4],
     /// Marks with an enclosed house that has breadths, and with one that has less than all of the ship's.
     set_in: [u64; 2],
     /// Marks with a reduction for depth, and poops that earn one.
     reductions: (u64, u64),
+    timber: TimberMarks,
     /// By number; for each of `CALLS`.
     refusals: [[u64; NUMBERS]; CALLS.len()],
     /// Overlaps of 1 mm, and the greatest.
     overlaps: (u64, u64),
     /// For inputs around the borders of sheer.
     sheer: Option<Sheer>,
+}
+
+/// Marks with the timber flag.
+#[derive(Default)]
+struct TimberMarks {
+    all: u64,
+    /// LS below zero, and at zero.
+    below_zero: u64,
+    at_zero: u64,
+    /// All six are zero, LS being at or above D.
+    none: u64,
+    /// LW is W though it would be greater, or comes to W by itself.
+    capped: u64,
+    level: u64,
+}
+
+impl TimberMarks {
+    fn add(&mut self, ship: &Ship, steps: &Steps, timber: &Timber) {
+        let none = *timber == Timber::default();
+        let own = timber.summer + (ship.depth - timber.summer + 35).div_euclid(36);
+        let winter = steps.summer + (ship.depth - steps.summer + 47).div_euclid(48);
+        self.all += 1;
+        self.below_zero += u64::from(timber.summer < 0);
+        self.at_zero += u64::from(timber.summer == 0 && !none);
+        self.none += u64::from(none);
+        self.capped += u64::from(timber.winter < own && !none);
+        self.level += u64::from(own == winter && !none);
+    }
+}
+
+impl fmt::Display for TimberMarks {
+    fn fmt(&self, f: &mut fmt::Formatter) -> fmt::Result {
+        let TimberMarks { all, below_zero, at_zero, none, capped, level } = self;
+        write!(
+            f,
+            "marks with timber {all}, with LS below zero {below_zero}, at zero {at_zero}, \
+             all six zero {none}, with LW limited by W {capped}, LW level with W by itself {level}"
+        )
+    }
 }
 
 /// Marks by where they lie.
@@ -147,6 +188,9 @@ impl Tally {
             let mut enclosed = ship.houses.iter().filter(|house| house.enclosed);
             self.set_in[0] += u64::from(enclosed.clone().any(|house| !house.has_full_breadth()));
             self.set_in[1] += u64::from(enclosed.any(|house| house.breadth < house.beam));
+            if let Some(timber) = marks::marks(&ship).ok().and_then(|marks| marks.timber) {
+                self.timber.add(&ship, &steps, &timber);
+            }
             if let Some(sheer) = &mut self.sheer {
                 sheer.add(&ship, &steps);
             }
@@ -167,15 +211,15 @@ impl Tally {
         REFUSALS.into_iter().find(|&refusal| self.seen(refusal) == 0)
     }
 
-    /// Refusals 11, 18, 22 and 23 in each call but writing back: a ship that was read is never refused.
+    /// Refusals 11, 18 and 22 to 24 in each call but writing back: a ship that was read is never refused.
     fn in_each_call(&self) -> String {
         let calls = CALLS.iter().zip(&self.refusals).filter(|(call, _)| **call != WRITES_BACK);
         let counts = calls.map(|(call, seen)| {
-            let [a, b, c, d] = LATER.map(|number| seen[number]);
-            format!("{call} {a}, {b}, {c} and {d}")
+            let [a, b, c, d, e] = LATER.map(|number| seen[number]);
+            format!("{call} {a}, {b}, {c}, {d} and {e}")
         });
         format!(
-            "11, 18, 22 and 23 in {}; overlaps of 1 mm {}, the greatest {} mm",
+            "11, 18, 22, 23 and 24 in {}; overlaps of 1 mm {}, the greatest {} mm",
             counts.collect::<Vec<_>>().join(", "),
             self.overlaps.0,
             self.overlaps.1
@@ -186,13 +230,15 @@ impl Tally {
     fn types_and_versions(&self) -> String {
         let types = TYPES.iter().zip(self.types).map(|(name, count)| format!("{name} {count}"));
         let ([fifty, more], [breadths, less]) = (self.floors, self.set_in);
-        let [(first, _), (second, as_first), (third, as_lower)] = self.versions;
+        let [(first, _), (second, as_first), (third, as_lower), (fourth, unflagged)] =
+            self.versions;
         format!(
             "marks of types {}, at the floor of 50 mm {fifty}, of 150 mm {more}, \
              with breadths {breadths}, with a house less broad than the ship {less}; \
              records read of version 1 {first}, of version 2 {second}, \
              {as_first} of them written back in version 1, of version 3 {third}, \
-             {as_lower} of them written back in version 1 or 2",
+             {as_lower} of them written back in version 1 or 2, of version 4 {fourth}, \
+             {unflagged} of them without the flag and written back in a lower one",
             types.collect::<Vec<_>>().join(", ")
         )
     }
@@ -214,12 +260,13 @@ impl fmt::Display for Tally {
             REFUSALS.iter().map(|&number| format!("{number}: {}", self.seen(number))).collect();
         write!(
             f,
-            "{} inputs, no difference: {}; {}; {}; \
+            "{} inputs, no difference: {}; {}; {}; {}; \
              {} marks with a reduction for depth, {} poops that earn one; refusals {}; {}",
             self.inputs,
             kinds.join(", "),
             calls.join(", "),
             self.types_and_versions(),
+            self.timber,
             self.reductions.0,
             self.reductions.1,
             refusals.join(", "),
@@ -261,13 +308,28 @@ mod tests {
         }
         assert!(tally.types.iter().all(|&n| n >= 500), "{tally}");
         assert!(tally.floors.iter().all(|&n| n >= 40), "{tally}");
-        let [(first, none), (second, as_first), (third, as_lower)] = tally.versions;
+        let [(first, none), (second, as_first), (third, as_lower), (fourth, unflagged)] =
+            tally.versions;
         assert_eq!(none, 0, "{tally}");
-        let counts = [first, second, third, as_first, as_lower];
-        assert!(counts.iter().chain(&tally.set_in).all(|&n| n >= 400), "{tally}");
+        let counts = [first, second, third, fourth, as_first, as_lower, unflagged];
+        assert!(counts.iter().chain(&tally.set_in).all(|&n| n >= 200), "{tally}");
     }
 
-    /// All refusals are seen, and both of a list of houses, 22 and 23 in every call.
+    /// Timber marks of every sort.
+    #[test]
+    fn timber_is_drawn() {
+        let mut random = Random::new(45);
+        let mut tally = Tally::default();
+        for _ in 0..20_000 {
+            let input = Input::draw(&mut random);
+            tally.add(&input, &judge::worked(&input));
+        }
+        let TimberMarks { all, below_zero, at_zero, none, capped, level } = tally.timber;
+        assert!(all >= 2_000 && capped >= 400 && below_zero >= 40 && none >= 40, "{tally}");
+        assert!(at_zero >= 5 && level >= 8, "{tally}");
+    }
+
+    /// All refusals are seen, and both of a list of houses and 22 to 24 in every call.
     #[test]
     fn refusals_are_drawn() {
         let mut random = Random::new(18);
@@ -280,7 +342,7 @@ mod tests {
         for (call, seen) in CALLS.iter().zip(&tally.refusals) {
             let counts = LATER.map(|number| seen[number]);
             if *call == WRITES_BACK {
-                assert_eq!(counts, [0; 4], "{tally}");
+                assert_eq!(counts, [0; 5], "{tally}");
             } else {
                 assert!(counts.iter().all(|&n| n >= 20), "{tally}");
             }

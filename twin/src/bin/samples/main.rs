@@ -3,8 +3,8 @@
 //!
 //! Each makes DIR/data/NAME for every case, DIR/args with the names in order, and DIR/stdout with
 //! one line for each. `samples slips` shows which cases of the marks a slip in a step would change,
-//! and how many cases of each call a slip in the check of the houses, about types and versions, or
-//! about set-in sides would.
+//! and how many cases of each call a slip in the check of the houses, about types and versions, about
+//! set-in sides, about the timber flag or in the search would.
 
 mod bytes;
 mod calls;
@@ -16,6 +16,7 @@ mod records;
 mod ships;
 mod sides;
 mod slips;
+mod timber;
 mod writes;
 
 use std::fs;
@@ -103,7 +104,15 @@ fn slips() -> String {
         ("marks", &marks.sides),
         ("questions", &questions.sides),
     ]);
-    format!("{}\n{lists}\n{heads}\n{sides}", marks.slips())
+    let timbers = calls::shown(&[
+        ("records", &records.timbers),
+        ("writes", &writes.timbers),
+        ("marks", &marks.timbers),
+        ("questions", &questions.timbers),
+    ]);
+    let steps = marks.slips();
+    let search = questions.slips();
+    format!("{steps}\n{lists}\n{heads}\n{sides}\n{timbers}\n{search}")
 }
 
 fn main() -> ExitCode {

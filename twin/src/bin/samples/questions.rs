@@ -1,5 +1,5 @@
 //! Questions for the shortest poop: height and wish, then the record. The line is the poop's length
-//! in dm, or one of refusals 1 to 11, 18, 22, 23, and 14 to 16.
+//! in dm, or one of refusals 1 to 11, 18, 22 to 24, and 14 to 16.
 
 use crate::bytes::{over, packed, resized, COUNT, KIND, SPARE, VERSION};
 use crate::heads::{self, slips::Heads};
@@ -9,6 +9,7 @@ use crate::ships::{
     KINDS, TYPES,
 };
 use crate::sides::{self, slips::Sides};
+use crate::timber::{self, slips::Timbers};
 use crate::{refused, slips, Sample};
 use twin::marks;
 use twin::question::{shortest_poop, summer_with_poop};
@@ -38,6 +39,7 @@ pub struct Questions {
     pub lists: Lists,
     pub heads: Heads,
     pub sides: Sides,
+    pub timbers: Timbers,
 }
 
 impl Questions {
@@ -66,6 +68,7 @@ impl Questions {
         }
         self.heads.question(&record, height, wish, &line);
         self.sides.question(&record, height, wish, &line);
+        self.timbers.question(&record, height, wish, &line);
         let mut data = height.to_be_bytes().to_vec();
         data.extend(wish.to_be_bytes());
         data.extend(record);
@@ -77,6 +80,12 @@ impl Questions {
             search_with(slip, ship, *height, *wish) != *answer
         });
         told.count()
+    }
+
+    /// How many cases each slip in the search changes.
+    pub fn slips(&self) -> String {
+        let line = |slip: Slip| format!("search {slip:?}: questions {}", self.told_by(slip));
+        SLIPS.map(line).join("\n")
     }
 
     fn ship(&mut self, name: &str, expected: Expected, height: u64, wish: u64, raw: &RawShip) {
@@ -115,6 +124,9 @@ pub fn cases() -> Questions {
     types_and_versions(&mut all);
     set_in_houses(&mut all);
     set_in_sides(&mut all);
+    flagged_ships(&mut all);
+    flagged_borders(&mut all);
+    timber_flag(&mut all);
     for slip in SLIPS {
         let (told, least) = (all.told_by(slip), if slip as usize >= LATER { 3 } else { 2 });
         assert!(told >= least, "too few cases tell {slip:?}: {told}");
@@ -122,6 +134,7 @@ pub fn cases() -> Questions {
     all.lists.enough("questions");
     all.heads.enough("questions");
     all.sides.enough("questions");
+    all.timbers.enough("questions");
     all
 }
 
@@ -359,7 +372,7 @@ fn order(all: &mut Questions) {
     let record = packed(&k2());
     for (number, place, bytes) in [
         (1, 0, resized(record.clone(), 26)),
-        (2, 0, over(record.clone(), VERSION, 4, 4)),
+        (2, 0, over(record.clone(), VERSION, 4, 5)),
         (3, 0, over(record.clone(), KIND, 2, 2)),
         (4, 0, over(resized(packed(&extremes()), 99), COUNT, 4, 9)),
         (5, 0, resized(record.clone(), 36)),
@@ -536,6 +549,82 @@ fn set_in_sides(all: &mut Questions) {
     all.ship("side-23-before-16", Refused(23, 0), 1_950, 50, &third);
 }
 
+/// The answer does not depend on the timber flag: the wish is for S, with its own percentages and line.
+fn flagged_ships(all: &mut Questions) {
+    for (wish, expected) in
+        [(1_000, Poop(31)), (1_024, Poop(0)), (187, Poop(800)), (50, Refused(16, 0))]
+    {
+        let raw = timber::flagged(&k2());
+        all.ship(&format!("timber-k2-wish-{wish}"), expected, 1_950, wish, &raw);
+    }
+    for (wish, expected) in [(1_620, Poop(719)), (1_619, Poop(1_200)), (592, Refused(16, 0))] {
+        let raw = timber::flagged(&rising());
+        all.ship(&format!("timber-rising-wish-{wish}"), expected, 2_250, wish, &raw);
+    }
+    for (kind, name) in (1..).zip(&TYPES[1..]) {
+        let raw = RawShip { kind, ..timber::flagged(&bulk()) };
+        let own = mark(&raw, 2_300, 0).expect("marks without a poop");
+        for k in [0, 50, 400] {
+            let wish = mark(&raw, 2_300, k).expect("marks with a poop");
+            let expected = if wish == own { Poop(0) } else { Longer };
+            all.ship(&format!("timber-{name}-wish-{wish}"), expected, 2_300, wish, &raw);
+        }
+    }
+}
+
+/// S keeps its bow height and its floor with the flag, and a length counts where LS is at or above D.
+fn flagged_borders(all: &mut Questions) {
+    let bow = timber::flagged(&with(k1(), &[house(50_000, 60_000, 2_000)]));
+    all.ship("timber-bow-wish-2030", Poop(0), 1_950, 2_030, &bow);
+    all.ship("timber-bow-wish-2029", Refused(16, 0), 1_950, 2_029, &bow);
+    for (kind, length) in [(1, 60_000), (2, 110_000), (4, 80_000)] {
+        let fore = house(length as i64 * 9 / 10, length as i64, 1_500);
+        let raw = with(RawShip { cwf: 6_500, ..plain(kind, length) }, &[fore]);
+        let own = mark(&raw, 2_300, 0).expect("marks without a poop");
+        let name = format!("timber-bow-type-{kind}-wish-{}", own - 1);
+        all.ship(&name, Refused(16, 0), 2_300, own - 1, &timber::flagged(&raw));
+    }
+    let low = |kind| {
+        let raw = RawShip { depth: 2_600, moulded: 2_000, cwf: 10_000, ..plain(kind, 40_000) };
+        timber::flagged(&with(RawShip { cb: 6_800, ..raw }, &[forecastle(40_000)]))
+    };
+    for (wish, expected) in [(49, Refused(14, 0)), (50, Longer)] {
+        all.ship(&format!("timber-type-1-wish-{wish}"), expected, 2_000, wish, &low(1));
+    }
+    for (wish, expected) in
+        [(60, Refused(16, 0)), (100, Refused(16, 0)), (149, Refused(16, 0)), (150, Longer)]
+    {
+        all.ship(&format!("timber-type-4-wish-{wish}"), expected, 2_000, wish, &low(4));
+    }
+    for (kind, depth) in [(2, 1_690), (3, 1_650), (3, 1_500)] {
+        let raw = RawShip { kind, depth, moulded: 2_000, cwf: 10_000, ..timber::flagged(&bulk()) };
+        let raw = with(raw, &[open(house(100_000, 110_000, 2_300))]);
+        let own = mark(&raw, 2_300, 0).expect("marks without a poop");
+        for wish in [own, 60_000] {
+            let name = format!("timber-type-{kind}-depth-{depth}-wish-{wish}");
+            all.ship(&name, Poop(0), 2_300, wish, &raw);
+        }
+    }
+}
+
+/// Ships and records about the timber flag, asked for what a poop of 5 m gives, and what comes after 24.
+fn timber_flag(all: &mut Questions) {
+    for case in timber::ships() {
+        let (expected, wish) = for_poop_of_5_m(case.expected, &packed(&case.raw));
+        all.ship(&case.name, expected, 2_000, wish, &case.raw);
+    }
+    for case in timber::records() {
+        let (expected, wish) = for_poop_of_5_m(case.expected, &case.bytes);
+        all.bytes(&case.name, expected, 2_000, wish, case.bytes);
+    }
+    let a = RawShip { kind: 0, ..timber::flagged(&k2()) };
+    all.ship("timber-24-before-14-height", Refused(24, 0), 0, 1_000, &a);
+    all.ship("timber-24-before-14-wish", Refused(24, 0), 1_950, 49, &a);
+    let stern = with(a.clone(), &[house(0, 9_000, 2_000), a.houses[0]]);
+    all.ship("timber-24-before-15", Refused(24, 0), 1_950, 60_000, &stern);
+    all.ship("timber-24-before-16", Refused(24, 0), 1_950, 50, &a);
+}
+
 /// Plausible slips in the search.
 #[derive(Clone, Copy, Debug, PartialEq)]
 enum Slip {
@@ -591,12 +680,24 @@ enum Slip {
     BreadthsLost,
     /// Breadths stay at their places when the houses make room for the poop.
     BreadthsLeft,
+    /// With the flag the wish is for LS.
+    AsksTimber,
+    /// With the flag S has the timber percentages.
+    TimberRow,
+    /// With the flag S of a reduced ship has the line of B.
+    TimberLine,
+    /// With the flag S has no bow height.
+    TimberBow,
+    /// With the flag S has no floor.
+    TimberFloor,
+    /// A length is unfit where LS is at or above D.
+    TimberUnfit,
 }
 
-/// The first slip about types and breadths; one more case must tell each of these.
+/// The first slip about types, breadths and timber; one more case must tell each of these.
 const LATER: usize = Slip::AsksAsB as usize;
 
-const SLIPS: [Slip; 26] = [
+const SLIPS: [Slip; 32] = [
     Slip::StopsAtRise,
     Slip::Halves,
     Slip::SkipsZero,
@@ -623,6 +724,12 @@ const SLIPS: [Slip; 26] = [
     Slip::PoopSetIn,
     Slip::BreadthsLost,
     Slip::BreadthsLeft,
+    Slip::AsksTimber,
+    Slip::TimberRow,
+    Slip::TimberLine,
+    Slip::TimberBow,
+    Slip::TimberFloor,
+    Slip::TimberUnfit,
 ];
 
 /// The slip in the marks that it comes to at this length.
@@ -638,6 +745,11 @@ fn in_marks(slip: Slip, ship: &Ship, k: i64) -> Option<slips::Slip> {
         Slip::PoopAsForecastle if k > 0 => Some(slips::Slip::DeductAlways),
         Slip::LowerFloor => Some(slips::Slip::CoversFloorNever),
         Slip::GreaterFloor => Some(slips::Slip::FloorEvery),
+        Slip::TimberRow => Some(slips::Slip::FlagRow),
+        Slip::TimberLine => Some(slips::Slip::FlagLine),
+        Slip::TimberBow => Some(slips::Slip::FlagBow),
+        Slip::TimberFloor => Some(slips::Slip::FlagFloor),
+        Slip::TimberUnfit => Some(slips::Slip::TimberTwelve),
         _ => None,
     }
 }
@@ -662,6 +774,9 @@ fn mark_with(slip: Slip, ship: &Ship, height: u64, k: i64) -> Option<i64> {
     }
     if let Some(slip) = in_marks(slip, ship, k) {
         return slips::worked(&longer, Some(slip)).ok().map(|marks| marks.summer);
+    }
+    if let (Slip::AsksTimber, Ok(marks)) = (slip, marks::marks(&longer)) {
+        return Some(marks.timber.map_or(marks.summer, |timber| timber.summer));
     }
     let refused = marks::marks(&longer).is_err() && slip != Slip::TakesRefused;
     (!refused).then(|| marks::steps(&longer).summer)

@@ -5,6 +5,7 @@ use crate::heads::{self, slips::Heads};
 use crate::lists::{self, slips::Lists};
 use crate::ships::{extremes, house, k1, k2, three_houses, with};
 use crate::sides::{self, slips::Sides};
+use crate::timber::{self, slips::Timbers};
 use crate::{overlap, refused, Expected, Sample};
 use twin::random::Random;
 use twin::record::{self, House, RawShip, Version};
@@ -16,6 +17,7 @@ pub struct Records {
     pub lists: Lists,
     pub heads: Heads,
     pub sides: Sides,
+    pub timbers: Timbers,
 }
 
 impl Records {
@@ -23,6 +25,7 @@ impl Records {
         let line = report::record_line(&bytes);
         self.heads.read(&bytes, &line);
         self.sides.read(&bytes, &line);
+        self.timbers.read(&bytes, &line);
         let lowest = record::read(&bytes)
             .is_ok_and(|ship| bytes[0] >> 4 == Version::lowest(&ship.raw()) as u8);
         assert!(expected.is_some() || line.ends_with(" back") == lowest, "{name}: {line}");
@@ -52,9 +55,11 @@ pub fn cases() -> Records {
     lists(&mut all);
     types_and_versions(&mut all);
     set_in_sides(&mut all);
+    timber(&mut all);
     all.lists.enough("records");
     all.heads.enough("records");
     all.sides.enough("records");
+    all.timbers.enough("records");
     all
 }
 
@@ -86,8 +91,8 @@ fn header(all: &mut Records) {
     all.bytes("nine-houses-99-bytes", refused(4, 0), nine);
     all.bytes("nine-houses-91-bytes", refused(4, 0), over(eight, COUNT, 4, 9));
     all.bytes("fifteen-houses-27-bytes", refused(4, 0), over(packed(&k1()), COUNT, 4, 15));
-    for (version, number) in [(0, 2), (2, 5), (3, 5), (4, 2), (15, 2)] {
-        // By the head of versions 2 and 3 it has two houses.
+    for (version, number) in [(0, 2), (2, 5), (3, 5), (4, 5), (5, 2), (15, 2)] {
+        // By the head of versions 2 to 4 it has two houses.
         let bytes = over(packed(&k2()), VERSION, 4, version);
         all.bytes(&format!("version-{version}"), refused(number, 0), bytes);
     }
@@ -251,6 +256,26 @@ fn set_in_sides(all: &mut Records) {
         (raw.houses[0].breadth, raw.houses[0].beam) = random.breadths();
         all.ship(&format!("side-random-type-{kind}-houses-{n}"), None, &raw);
     }
+}
+
+/// Ships and records about the timber flag, and random ships of every type B and number of houses.
+fn timber(all: &mut Records) {
+    for case in timber::ships() {
+        all.ship(&case.name, case.expected, &case.raw);
+    }
+    for case in timber::records() {
+        all.bytes(&case.name, case.expected, case.bytes);
+    }
+    let mut random = Random::new(2009);
+    for n in 0..=8 {
+        let kind = 1 + n as u64 % 4;
+        let mut raw = random.ship_of(kind, n);
+        random.set_in_at_times(&mut raw.houses[..n]);
+        let name = format!("timber-random-type-{kind}-houses-{n}");
+        all.ship(&name, None, &timber::flagged(&raw));
+    }
+    let most = RawShip { kind: 3, ..timber::flagged(&extremes()) };
+    all.ship("timber-extreme-values", None, &most);
 }
 
 /// Lists about refusals 11 and 18, and what comes before either.

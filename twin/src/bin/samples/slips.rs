@@ -7,6 +7,8 @@ use twin::marks::{self, increase, standard_height, tabular, Marks};
 use twin::record::{House, Kind, Ship, MAX_HOUSES};
 use twin::refusal::Refusal;
 
+mod timber;
+
 macro_rules! slips {
     ($($name:ident $regulation:literal $text:literal,)*) => {
         #[derive(Clone, Copy, Debug, PartialEq, Eq)]
@@ -239,6 +241,80 @@ slips! {
     SidesNoReduction 31 "no reduction for a set-in house",
     SidesBowLength 39 "0.07 L by the ratio of breadths",
     SidesBowHeight 39 "forecastle's height by the ratio of breadths",
+    TimberNever 45 "no timber marks",
+    TimberAlways 45 "timber marks without the flag",
+    TimberZeros 45 "zeros printed without the flag",
+    TimberRow 45 "LS by the percentages of 37",
+    TimberFromZero 45 "LS by 0 per cent where no house is effective",
+    TimberNotLinear 45 "timber percentages not linear",
+    TimberShareUp 45 "share for timber up",
+    TimberProductUp 45 "product for timber up",
+    TimberForecastle 45 "deduction for timber without a forecastle",
+    TimberTwenty 45 "20 per cent for timber without a forecastle",
+    TimberNoShort 45 "LS without 29",
+    TimberNoFullness 45 "LS without 30",
+    TimberNoDepth 45 "LS without the addition of 31",
+    TimberNoReduction 45 "LS without the reduction of 31",
+    TimberNoSheer 45 "LS without 38",
+    TimberReducedLine 45 "LS by the reduced line",
+    TimberSixtyLine 45 "LS of B-60 by its own line",
+    TimberHundredLine 45 "LS of B-100 by its own line",
+    TimberLineAfterFullness 45 "LS of a reduced ship raised to B's after 30",
+    TimberCoversLine 45 "LS with portable covers by the line of B",
+    TimberBow 45 "bow height asked for in LS",
+    TimberFloor 45 "LS and LT at least 50",
+    TimberFloorOfType 45 "LS and LT at least the type's floor",
+    TimberFloorCovers 45 "LS and LT with portable covers at least 150",
+    TimberTropicalFloor 45 "LT at least 50",
+    TimberZero 45 "LS and LT at least 0",
+    TimberTropicalZero 45 "LT at least 0",
+    TimberFreshZero 45 "LF and LTF at least 0",
+    TimberDown 45 "LS down to mm",
+    TimberNearest 45 "LS to the nearest mm",
+    TimberAway 45 "LS below zero away from zero",
+    TimberAtMostSummer 45 "LS of a reduced ship at most S",
+    TimberDraughtOfSummer 45 "timber draught by S",
+    TimberDraughtMoulded 45 "timber draught from M",
+    TimberTropicalUp 45 "d/48 up for LT",
+    TimberTropicalThirtySix 45 "d/36 for LT",
+    TimberWinterDown 45 "d/36 down for LW",
+    TimberWinterFortyEight 45 "d/48 for LW",
+    TimberWinterFromSummer 45 "LW from S",
+    TimberWinterOrdinary 45 "LW of a reduced ship is W, be it greater",
+    TimberCapNever 45 "W does not limit LW",
+    TimberCapNotSixty 45 "W does not limit LW of B-60",
+    TimberCapNotHundred 45 "W does not limit LW of B-100",
+    TimberCapB 45 "W limits LW of B too",
+    TimberCapCovers 45 "W limits LW with portable covers too",
+    TimberCapGreater 45 "LW the greater of the two",
+    TimberCapAtlantic 45 "WNA limits LW of every type",
+    TimberCapTropical 45 "LT of a reduced ship at most T",
+    TimberAtlanticOwn 45 "LWNA from LW",
+    TimberAtlanticWinter 45 "LWNA is W",
+    TimberAtlanticLevel 45 "LWNA at least LW",
+    TimberFreshCertified 45 "LF and LTF by the certified allowance",
+    TimberFreshOrdinary 45 "LF and LTF by the allowance of F",
+    TimberFreshUp 45 "d/48 up for LF and LTF",
+    TimberFreshThirtySix 45 "d/36 for LF and LTF",
+    TimberTropicalFreshOnce 45 "LTF from LS",
+    TimberTropicalFreshTogether 45 "LTF by d/24, rounded once",
+    TimberAtDepth 45 "LS at D passes",
+    TimberBeyondDepth 45 "LS above D passes",
+    TimberBelowZeroNone 45 "no timber marks where LS is below zero",
+    TimberWinterDepth 45 "no timber marks where LW is at or above D",
+    TimberNoneAtlantic 45 "LWNA stands where LS is at or above D",
+    TimberNoneUnsaid 45 "nothing printed where LS is at or above D",
+    TimberNoneAll 45 "ordinary marks zero too where LS is at or above D",
+    TimberTwelve 12 "where LS is at or above D, too",
+    TimberNotTwelve 12 "by LS with the flag",
+    TimberThirteen 13 "where the allowance is above the timber draught, too",
+    TimberNotThirteen 13 "never with the flag",
+    FlagRow 37 "timber percentages for S with the flag",
+    FlagLine 27 "line of B for S of a reduced ship with the flag",
+    FlagBow 39 "not asked for in S with the flag",
+    FlagFloor 40 "S and T with no floor with the flag",
+    FlagWinter 40 "d/36 for W with the flag",
+    FlagFresh 40 "d/48 for F with the flag, though certified",
 }
 
 fn down(number: i128, divisor: i128) -> i128 {
@@ -281,12 +357,12 @@ fn join(houses: &mut Vec<House>) {
 
 /// The marks, with a slip or none.
 pub fn worked(ship: &Ship, slip: Option<Slip>) -> Result<Marks, Refusal> {
-    Working { ship, slip, l: ship.length.into() }.marks()
+    Working { ship, slip, l: ship.length.into(), timber: false }.marks()
 }
 
 /// Whether the slip changes the freeboard before the bow height, be it by a um.
 pub fn changes(ship: &Ship, slip: Slip) -> bool {
-    let corrected = |slip| Working { ship, slip, l: ship.length.into() }.corrected();
+    let corrected = |slip| Working { ship, slip, l: ship.length.into(), timber: false }.corrected();
     corrected(Some(slip)) != corrected(None)
 }
 
@@ -304,11 +380,23 @@ struct Working<'a> {
     slip: Option<Slip>,
     /// L, mm.
     l: i128,
+    /// For LS.
+    timber: bool,
 }
 
 impl Working<'_> {
     fn has(&self, slip: Slip) -> bool {
         self.slip == Some(slip)
+    }
+
+    /// The slip, in the working of LS.
+    fn in_timber(&self, slip: Slip) -> bool {
+        self.timber && self.has(slip)
+    }
+
+    /// The slip, in the ordinary marks of a ship with the flag.
+    fn with_flag(&self, slip: Slip) -> bool {
+        self.ship.timber && !self.timber && self.has(slip)
     }
 
     /// Down, or up under the slip.
@@ -326,35 +414,23 @@ impl Working<'_> {
         let summer = self.summer();
         let draught = i128::from(ship.depth) - summer;
         let sinks = draught < 0 || draught == 0 && !self.has(Slip::TwelveAbove);
+        let sinks = self.sinks_by_timber(sinks);
         Refusal::unless(!sinks || self.has(Slip::TwelveNever), Refusal::MARK_AT_DECK)?;
         let d = match self.has(Slip::DraughtMoulded) {
             true => i128::from(ship.moulded) - summer,
             false => draught,
         };
-        let certified = (25 * i128::from(ship.displacement), i128::from(ship.immersion));
-        let plain = self.down(d, 48, Slip::FreshUp);
-        let allowance = match certified {
-            (0, _) => plain,
-            _ if self.has(Slip::FreshPlain) => plain,
-            (weight, immersion) => match self.down(weight, immersion, Slip::FreshUp) {
-                allowance if self.has(Slip::FreshLesser) => allowance.min(plain),
-                allowance => allowance,
-            },
-        };
-        let over = match self.slip {
-            Some(Slip::ThirteenAt) => allowance >= draught,
-            Some(Slip::ThirteenNever) => false,
-            Some(Slip::ThirteenExact) => certified.0 > certified.1 * draught && certified.1 > 0,
-            _ => allowance > draught,
-        };
-        Refusal::unless(!over, Refusal::FRESH_ALLOWANCE)?;
+        let allowance = self.allowance(d);
+        Refusal::unless(!self.is_over(allowance, draught), Refusal::FRESH_ALLOWANCE)?;
         let low = summer - self.down(d, 48, Slip::TropicalUp);
         let tropical = match self.slip {
             Some(Slip::TropicalFloorNever) => low,
+            Some(Slip::FlagFloor) if ship.timber => low,
             Some(Slip::CoversFloorSummer) => low.max(50),
             _ => low.max(self.floor()),
         };
-        let winter = summer + self.up(d, 48, Slip::WinterDown);
+        let parts = if self.with_flag(Slip::FlagWinter) { 36 } else { 48 };
+        let winter = summer + self.up(d, parts, Slip::WinterDown);
         let addition = match self.slip {
             Some(Slip::NorthAtlanticAlways) => 50,
             Some(Slip::NorthAtlanticNever) => 0,
@@ -367,18 +443,50 @@ impl Working<'_> {
             _ => i128::MIN,
         };
         let tropical_fresh = if self.has(Slip::TropicalFreshEarly) { low } else { tropical };
-        Ok(Marks {
+        Ok(self.with_timber(Marks {
             summer: summer as i64,
             tropical: tropical as i64,
             winter: winter as i64,
             winter_north_atlantic: (winter + addition) as i64,
             fresh: (summer - allowance).max(least) as i64,
             tropical_fresh: (tropical_fresh - allowance).max(least) as i64,
-        })
+            timber: None,
+        }))
+    }
+
+    /// 40(7), and 40(8) if not certified.
+    fn allowance(&self, d: i128) -> i128 {
+        let plain = self.down(d, 48, Slip::FreshUp);
+        match (25 * i128::from(self.ship.displacement), i128::from(self.ship.immersion)) {
+            (0, _) => plain,
+            _ if self.has(Slip::FreshPlain) || self.with_flag(Slip::FlagFresh) => plain,
+            (weight, immersion) => match self.down(weight, immersion, Slip::FreshUp) {
+                allowance if self.has(Slip::FreshLesser) => allowance.min(plain),
+                allowance => allowance,
+            },
+        }
+    }
+
+    /// Refusal 13.
+    fn is_over(&self, allowance: i128, draught: i128) -> bool {
+        let ship = self.ship;
+        let weight = 25 * i128::from(ship.displacement);
+        let immersion = i128::from(ship.immersion);
+        match self.slip {
+            Some(Slip::ThirteenAt) => allowance >= draught,
+            Some(Slip::ThirteenNever) => false,
+            Some(Slip::ThirteenExact) => weight > immersion * draught && immersion > 0,
+            Some(Slip::TimberThirteen) if ship.timber => {
+                allowance > draught.min(self.timber_draught())
+            }
+            Some(Slip::TimberNotThirteen) if ship.timber => false,
+            _ => allowance > draught,
+        }
     }
 
     fn summer(&self) -> i128 {
-        let bow = if self.has(Slip::BowNever) { i128::MIN } else { self.bow() };
+        let no_bow = self.has(Slip::BowNever) || self.with_flag(Slip::FlagBow);
+        let bow = if no_bow { i128::MIN } else { self.bow() };
         let freeboard = match self.slip {
             Some(Slip::ReductionAfterBow) => self.corrected().max(bow) - self.reduction(),
             Some(Slip::CoversAfterBow) if self.ship.kind == Kind::Covers => {
@@ -393,6 +501,7 @@ impl Working<'_> {
         };
         match self.slip {
             Some(Slip::FloorNever) => mark,
+            Some(Slip::FlagFloor) if self.ship.timber => mark,
             Some(Slip::CoversFloorTropical) => mark.max(50),
             _ => mark.max(self.floor()),
         }
@@ -586,7 +695,7 @@ impl Working<'_> {
     fn corrected(&self) -> i128 {
         let (covered, effective) = (self.covered(), self.effective_sum());
         let (depth, reduction) = (self.depth(), self.reduction());
-        let (table, later) = self.table();
+        let (table, later) = self.line();
         let short = self.short_b(match self.slip {
             Some(Slip::ShortCovered) => 1000 * covered,
             Some(Slip::SidesShort) => self.effective_sum_by_height(),
@@ -613,6 +722,9 @@ impl Working<'_> {
             true => (reduced - deducted).max(0),
             false => reduced - deducted,
         };
+        if self.in_timber(Slip::TimberNoSheer) {
+            return freeboard;
+        }
         freeboard
             + self.sheer(match self.slip {
                 Some(Slip::FactorPlain) => 0,
@@ -621,8 +733,8 @@ impl Working<'_> {
             })
     }
 
-    /// 27 and 28: the type's line, and what a slip adds to the freeboard after 30.
-    fn table(&self) -> (i128, i128) {
+    /// 27 and 28: the line of a type, and what a slip adds to the freeboard after 30.
+    fn table(&self, kind: Kind) -> (i128, i128) {
         let length = match self.slip {
             Some(Slip::RowBelow) => self.ship.length / 1000 * 1000,
             Some(Slip::RowNearest) => (self.ship.length + 500) / 1000 * 1000,
@@ -632,7 +744,7 @@ impl Working<'_> {
             true => (rows(Kind::B, length), rows(Kind::A, length)),
             false => (rows(Kind::A, length), rows(Kind::B, length)),
         };
-        let line = match (self.ship.kind, self.slip) {
+        let line = match (kind, self.slip) {
             (Kind::B, Some(Slip::CoversOnB)) => b + self.increase(),
             (Kind::B60, Some(Slip::CoversOnReduced)) => self.reduced(a, b) + self.increase(),
             (Kind::B100, Some(Slip::CoversOnReduced)) => a + self.increase(),
@@ -702,7 +814,8 @@ impl Working<'_> {
         };
         let short = l < 100_000 || self.has(Slip::ShortOver100);
         let few = effective < 350 * l || self.has(Slip::ShortLongHouses);
-        if type_b && short && few && !self.has(Slip::ShortNever) {
+        let never = self.has(Slip::ShortNever) || self.in_timber(Slip::TimberNoShort);
+        if type_b && short && few && !never {
             self.up(3 * (100_000 - l) * (350 * l - effective), 400 * l, Slip::ShortDown)
         } else {
             0
@@ -714,7 +827,8 @@ impl Working<'_> {
         let cb = i128::from(self.ship.cb);
         let cb = if self.has(Slip::FullnessUnlimited) { cb } else { cb.min(10_000) };
         let applies = cb > 6_800 || self.has(Slip::FullnessBelow);
-        if applies && !self.has(Slip::FullnessNever) {
+        let never = self.has(Slip::FullnessNever) || self.in_timber(Slip::TimberNoFullness);
+        if applies && !never {
             self.up(freeboard * (cb + 6_800), 13_600, Slip::FullnessDown)
         } else {
             freeboard
@@ -726,6 +840,7 @@ impl Working<'_> {
         let depth = if self.has(Slip::DepthMoulded) { self.ship.moulded } else { self.ship.depth };
         let excess = match self.slip {
             Some(Slip::DepthNever) => 0,
+            Some(Slip::TimberNoDepth) if self.timber => 0,
             Some(Slip::ReductionAbove) if self.amidships().is_some() => 0,
             _ => (15 * i128::from(depth) - self.l).max(0),
         };
@@ -748,6 +863,7 @@ impl Working<'_> {
         let lack = self.l - 15 * i128::from(depth);
         let lack = match self.slip {
             Some(Slip::ReductionNever) => 0,
+            Some(Slip::TimberNoReduction) if self.timber => 0,
             Some(Slip::ReductionAbove) => lack.abs(),
             Some(Slip::ReductionFifteenth) => (lack - self.l % 15).max(0),
             Some(Slip::ReductionForecastle)
@@ -847,12 +963,16 @@ impl Working<'_> {
             | (Some(Slip::DeductB100Always), Kind::B100)
             | (Some(Slip::DeductCoversAlways), Kind::Covers)
             | (Some(Slip::DeductOnlyB), Kind::B60 | Kind::B100 | Kind::Covers) => false,
+            (Some(Slip::TimberForecastle), _) if self.timber => false,
             (Some(Slip::DeductForecastleA), _) => true,
             (_, kind) => kind != Kind::A,
         };
-        if asked && !self.forecastle().is_some_and(|house| self.is_long(house)) {
+        let long = self.forecastle().is_some_and(|house| self.is_long(house));
+        if asked && !long && !self.in_timber(Slip::TimberTwenty) {
             return 0;
         }
+        // 20 per cent are those at no effective length.
+        let effective = if asked && !long { 0 } else { effective };
         let point = |(x0, y0): (i128, i128), (x1, y1): (i128, i128)| {
             let rise = (y1 - y0) * 1000 * (l - x0);
             1000 * y0 + self.down(rise, x1 - x0, Slip::DeductFullUp)
@@ -865,16 +985,26 @@ impl Working<'_> {
             _ if l < 122_000 => point(ends[1], ends[2]),
             _ => 1_070_000,
         };
-        let percentages = [0, 70, 140, 210, 310, 410, 520, 630, 753, 877, 1000, 1000];
-        let tenth = 100 * l;
+        let share = self.share(effective);
+        match self.in_timber(Slip::TimberProductUp) {
+            true => up(full * share, 1_000_000),
+            false => self.down(full * share, 1_000_000, Slip::DeductUp),
+        }
+    }
+
+    /// 37(2) and 45(1): millionths of the full deduction.
+    fn share(&self, effective: i128) -> i128 {
+        let percentages = self.percentages();
+        let tenth = 100 * self.l;
         let below = (effective / tenth).min(10) as usize;
-        let beyond = match self.has(Slip::DeductSteps) {
-            true => 0,
-            false => effective - below as i128 * tenth,
-        };
+        let steps = self.has(Slip::DeductSteps) || self.in_timber(Slip::TimberNotLinear);
+        let beyond = if steps { 0 } else { effective - below as i128 * tenth };
         let rise = 1000 * (percentages[below + 1] - percentages[below]) * beyond;
-        let share = 1000 * percentages[below] + self.down(rise, tenth, Slip::DeductShareUp);
-        self.down(full * share, 1_000_000, Slip::DeductUp)
+        let beyond = match self.in_timber(Slip::TimberShareUp) {
+            true => up(rise, tenth),
+            false => self.down(rise, tenth, Slip::DeductShareUp),
+        };
+        1000 * percentages[below] + beyond
     }
 
     /// 37(3): the forecastle has 0.07 L.

@@ -4,6 +4,7 @@ use crate::heads::{self, slips::Heads};
 use crate::lists::{self, slips::Lists};
 use crate::ships::{bulk, extremes, house, k1, k2, set_in, three_houses, with};
 use crate::sides::{self, slips::Sides};
+use crate::timber::{self, slips::Timbers};
 use crate::{overlap, refused, Expected, Sample};
 use twin::random::Random;
 use twin::record::{House, RawShip, Version};
@@ -15,6 +16,7 @@ pub struct Writes {
     pub lists: Lists,
     pub heads: Heads,
     pub sides: Sides,
+    pub timbers: Timbers,
 }
 
 impl Writes {
@@ -29,6 +31,7 @@ impl Writes {
         self.lists.add(ship, refused(17, 0).filter(|_| short));
         self.heads.write(&trial, &line);
         self.sides.write(&trial, &line);
+        self.timbers.write(&trial, &line);
         self.samples.push(Sample::new(name, data, line, expected));
     }
 
@@ -57,9 +60,12 @@ pub fn cases() -> Writes {
     set_in_sides(&mut all);
     wide_breadths(&mut all);
     breadths_beyond_count(&mut all);
+    timber(&mut all);
+    timber_buffers(&mut all);
     all.lists.enough("writes");
     all.heads.enough("writes");
     all.sides.enough("writes");
+    all.timbers.enough("writes");
     all
 }
 
@@ -355,6 +361,62 @@ fn breadths_beyond_count(all: &mut Writes) {
         raw.houses[n..].fill(set_in(house(1, 2, 1), breadth, beam));
         let name = format!("side-{name}-breadths-beyond-{n}");
         all.into(27 + 8 * n as u64, &name, None, &raw);
+    }
+}
+
+/// Ships about the timber flag, and numbers of which only the low bits are those of type A.
+fn timber(all: &mut Writes) {
+    for case in timber::ships() {
+        all.into(128, &case.name, case.expected, &case.raw);
+    }
+    for (name, kind) in
+        [("8", 8), ("2-to-32", 1 << 32), ("2-to-63", 1 << 63), ("greatest", u64::MAX)]
+    {
+        let raw = RawShip { kind, ..timber::flagged(&k2()) };
+        all.into(64, &format!("timber-3-type-{name}"), refused(3, 0), &raw);
+    }
+    let a = RawShip { kind: 0, ..timber::flagged(&k2()) };
+    for (name, n) in [("16", 16), ("2-to-32-and-1", (1 << 32) + 1), ("greatest", u64::MAX)] {
+        let raw = RawShip { n, ..a.clone() };
+        all.into(64, &format!("timber-24-before-4-{name}-houses"), refused(24, 0), &raw);
+    }
+    let mut sheer = a.clone();
+    sheer.sheer[3] = i64::MIN;
+    all.into(64, "timber-24-before-7-sheer", refused(24, 0), &sheer);
+    let wide = with(a, &[set_in(k2().houses[0], 1 << 20, 1 << 20)]);
+    all.into(64, "timber-24-before-23-wide", refused(24, 0), &wide);
+    // What stands beyond n is ignored in version 4 too.
+    for n in [0, 1, 2] {
+        let houses = [house(10_000, 20_000, 1_900), k2().houses[0]];
+        let mut raw = timber::flagged(&with(k1(), &houses[2 - n..]));
+        raw.houses[n..].fill(set_in(house(1, 2, 0), 1, u64::MAX));
+        all.into(27 + 12 * n as u64, &format!("timber-wild-houses-beyond-{n}"), None, &raw);
+    }
+}
+
+/// 17 by the length of version 4, and after 24.
+fn timber_buffers(all: &mut Writes) {
+    let one = timber::flagged(&k2());
+    for (buffer, short) in [(27, true), (35, true), (38, true), (39, false), (40, false)] {
+        let name = format!("timber-one-house-in-{buffer}-bytes");
+        all.into(buffer, &name, refused(17, 0).filter(|_| short), &one);
+    }
+    for (buffer, short) in [(0, true), (26, true), (27, false), (28, false)] {
+        let name = format!("timber-no-house-in-{buffer}-bytes");
+        all.into(buffer, &name, refused(17, 0).filter(|_| short), &timber::flagged(&k1()));
+    }
+    let mut random = Random::new(2009);
+    for n in [2, 8] {
+        let raw = timber::flagged(&random.ship_of(1 + n as u64 % 4, n));
+        for (buffer, short) in [(27 + 8 * n, true), (26 + 12 * n, true), (27 + 12 * n, false)] {
+            let name = format!("timber-random-houses-{n}-in-{buffer}-bytes");
+            all.into(buffer as u64, &name, refused(17, 0).filter(|_| short), &raw);
+        }
+    }
+    for buffer in [0, 27, 35, 38] {
+        let raw = RawShip { kind: 0, ..one.clone() };
+        let name = format!("timber-24-before-17-in-{buffer}-bytes");
+        all.into(buffer, &name, refused(24, 0), &raw);
     }
 }
 

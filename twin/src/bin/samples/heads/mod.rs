@@ -89,10 +89,12 @@ fn versions(all: &mut Cases) {
     // With the layout of either version the rest would do.
     let first = packed(&RawShip { kind: 0, ..k1() });
     let second = packed(&RawShip { kind: 2, ..bulk() });
-    for (number, layout, bytes) in [(0, 1, &first), (0, 2, &second), (4, 2, &second)] {
+    for (number, layout, bytes) in [(0, 1, &first), (0, 2, &second), (9, 2, &second)] {
         let name = format!("version-{number}-layout-{layout}");
         all.bytes(&name, refused(2, 0), over(bytes.clone(), VERSION, 4, number));
     }
+    // A house of version 4 has 12 bytes.
+    all.bytes("version-4-layout-2", refused(5, 0), over(second.clone(), VERSION, 4, 4));
     for number in [5, 8] {
         let name = format!("version-{number}-layout-2");
         all.more(&name, refused(2, 0), over(second.clone(), VERSION, 4, number));
@@ -169,12 +171,12 @@ fn lengths(all: &mut Cases) {
 /// 22 stands after 7 and before 8; 3 stands before 4 in version 2 too.
 fn priorities(all: &mut Cases) {
     let second = packed(&RawShip { kind: 4, ..bulk() });
-    let both = over(over(second.clone(), VERSION, 4, 4), KIND, 3, 7);
+    let both = over(over(second.clone(), VERSION, 4, 5), KIND, 3, 7);
     all.bytes("2-before-3", refused(2, 0), both);
     let first = over(packed(&k1()), VERSION, 4, 0);
     all.bytes("2-before-3-version-0", refused(2, 0), over(first, KIND, 2, 3));
-    let fourth = over(second.clone(), VERSION, 4, 4);
-    all.bytes("2-before-4", refused(2, 0), over(fourth, COUNT, 4, 9));
+    let unknown = over(second.clone(), VERSION, 4, 5);
+    all.bytes("2-before-4", refused(2, 0), over(unknown, COUNT, 4, 9));
     let fifth = over(second.clone(), KIND, 3, 5);
     all.bytes("3-before-4", refused(3, 0), over(fifth.clone(), COUNT, 4, 9));
     all.bytes("3-before-5", refused(3, 0), resized(fifth.clone(), 36));

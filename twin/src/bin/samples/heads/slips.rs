@@ -69,6 +69,7 @@ struct Head {
     version: u64,
     kind: u64,
     n: u64,
+    timber: bool,
     spare: u64,
 }
 
@@ -114,7 +115,7 @@ impl calls::Working for Working {
         }
     }
 
-    /// Refusals 3, 4, 7 to 11, 18, 22, 23 and 17.
+    /// Refusals 3, 4, 7 to 11, 18, 22 to 24 and 17.
     fn write(&self, buffer: &mut [u8], raw: &RawShip) -> Result<usize, Refusal> {
         let kind = match self.has(Slip::StatedLowBits) {
             true => raw.kind & 7,
@@ -127,6 +128,7 @@ impl calls::Working for Working {
             _ => 4,
         };
         Refusal::unless(kind <= last, Refusal::KIND)?;
+        Refusal::unless(kind > 0 || !raw.timber, Refusal::TIMBER)?;
         Refusal::unless(raw.n <= MAX_HOUSES as u64, Refusal::TOO_MANY_HOUSES)?;
         let raw = RawShip { kind, ..raw.clone() };
         self.judged(&raw)?;
@@ -156,43 +158,46 @@ impl Working {
             Some(Slip::FirstSpare) if version == 2 => 6,
             Some(Slip::SecondSpare) => 5,
             Some(Slip::SpareNotInSecond) if version == 2 => 0,
+            _ if version == 4 => 4,
             _ => 8 - bits,
         };
         Head {
             version,
             kind: head >> (12 - bits) & ((1 << bits) - 1),
             n: head >> (8 - bits) & 15,
+            timber: version == 4 && head >> 4 & 1 == 1,
             spare: head & ((1 << spare) - 1),
         }
     }
 
-    /// Refusals 1 to 11, 18, 22 and 23.
+    /// Refusals 1 to 11, 18 and 22 to 24.
     fn ship(&self, bytes: &[u8]) -> Result<Ship, Refusal> {
         Refusal::unless(bytes.len() >= record::HEADER_BYTES, Refusal::SHORT_RECORD)?;
         let head = self.head(bytes);
         let known = match self.slip {
-            Some(Slip::FirstOnly) => [1, 3].contains(&head.version),
-            Some(Slip::SecondOnly) => [2, 3].contains(&head.version),
-            Some(Slip::ZeroRead) => head.version <= 3,
-            _ => (1..=3).contains(&head.version),
+            Some(Slip::FirstOnly) => [1, 3, 4].contains(&head.version),
+            Some(Slip::SecondOnly) => [2, 3, 4].contains(&head.version),
+            Some(Slip::ZeroRead) => head.version <= 4,
+            _ => (1..=4).contains(&head.version),
         };
         let version = Refusal::unless(known, Refusal::VERSION);
         let kind = Refusal::unless(self.kind_read(&head), Refusal::KIND);
+        let timber = Refusal::unless(head.kind > 0 || !head.timber, Refusal::TIMBER);
         let count = Refusal::unless(head.n <= MAX_HOUSES as u64, Refusal::TOO_MANY_HOUSES);
         let layout = Version::of(head.version).unwrap_or(Version::One);
         let bytes_of_n = layout.record_bytes(head.n as usize);
         let length = Refusal::unless(bytes.len() == bytes_of_n, Refusal::RECORD_LENGTH);
         let (raw, house_spare) = record::unpack(layout, bytes);
-        let raw = RawShip { kind: head.kind.min(4), n: head.n, ..raw };
+        let raw = RawShip { kind: head.kind.min(4), n: head.n, timber: head.timber, ..raw };
         let early = match self.has(Slip::BeforeSpare) {
             true => self.twenty_two(&raw),
             false => Ok(()),
         };
         let spare = Refusal::unless(head.spare | house_spare == 0, Refusal::SPARE_BIT);
         let order = match self.slip {
-            Some(Slip::VersionLate) => [kind, count, version, length, early, spare],
-            Some(Slip::KindLate) => [version, count, length, early, spare, kind],
-            _ => [version, kind, count, length, early, spare],
+            Some(Slip::VersionLate) => [kind, timber, count, version, length, early, spare],
+            Some(Slip::KindLate) => [version, count, length, early, spare, kind, timber],
+            _ => [version, kind, timber, count, length, early, spare],
         };
         order.into_iter().collect::<Result<(), Refusal>>()?;
         self.judged(&raw)

@@ -66,7 +66,9 @@ impl Lists {
     /// Takes in a ship's houses, unless something before them is refused.
     pub fn add(&mut self, raw: &RawShip, later: Option<Refusal>) {
         let refusal = raw.check().err();
-        let before = |number| number < Refusal::HOUSE || number == Refusal::KIND_LENGTH;
+        let before = |number| {
+            number < Refusal::HOUSE || [Refusal::KIND_LENGTH, Refusal::TIMBER].contains(&number)
+        };
         if refusal.is_some_and(|refusal| before(refusal.number)) {
             return;
         }

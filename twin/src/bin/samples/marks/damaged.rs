@@ -1,4 +1,4 @@
-//! Refusals 1 to 11, 18, 22 and 23, and the order between them.
+//! Refusals 1 to 11, 18 and 22 to 24, and the order between them.
 
 use super::Cases;
 use crate::bytes::{over, packed, resized, COUNT, HOUSE_SPARE, KIND, SPARE, VERSION};
@@ -7,6 +7,7 @@ use crate::lists;
 use crate::refused;
 use crate::ships::{extremes, house, k1, k2, open, quarterdeck, three_houses, with};
 use crate::sides;
+use crate::timber;
 use twin::record::{House, RawShip, Version};
 
 pub fn damaged(all: &mut Cases) {
@@ -117,6 +118,23 @@ pub fn sides(all: &mut Cases) {
         all.refused(&format!("side-23-{name}-before-12"), 23, 0, &sinking);
         let heavy = RawShip { displacement: 1 << 19, immersion: 1, ..raw };
         all.refused(&format!("side-23-{name}-before-13"), 23, 0, &heavy);
+    }
+}
+
+/// Ships and records about the timber flag, and what comes after 24.
+pub fn timber(all: &mut Cases) {
+    for case in timber::ships() {
+        all.ship(&case.name, case.expected, &case.raw);
+    }
+    for case in timber::records() {
+        all.bytes(&case.name, case.expected, case.bytes);
+    }
+    for (name, raw) in [("k1", k1()), ("k2", k2()), ("three-houses", three_houses())] {
+        let a = RawShip { kind: 0, ..timber::flagged(&raw) };
+        let sinking = RawShip { depth: 1_000, ..a.clone() };
+        all.refused(&format!("timber-24-{name}-before-12"), 24, 0, &sinking);
+        let heavy = RawShip { displacement: 1 << 19, immersion: 1, ..a };
+        all.refused(&format!("timber-24-{name}-before-13"), 24, 0, &heavy);
     }
 }
 

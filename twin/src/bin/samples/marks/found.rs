@@ -85,8 +85,8 @@ pub fn in_reduction(slip: Slip) -> bool {
     (Slip::ReductionNever as usize..=Slip::SheerFloor as usize).contains(&(slip as usize))
 }
 
-/// The slips in a shorter working of sheer and those about the five types and set-in sides, the last ones. Cases made by
-/// hand are enough for them.
+/// The slips in a shorter working of sheer and those about the five types, set-in sides and timber, the last
+/// ones. Cases made by hand are enough for them.
 pub fn by_hand(slip: Slip) -> bool {
     slip as usize > Slip::SheerFloor as usize
 }

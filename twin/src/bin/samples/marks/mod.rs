@@ -1,4 +1,5 @@
-//! Records to work the marks of: the line is the six marks, or one of refusals 1 to 13, 18, 22 and 23.
+//! Records to work the marks of: the line is the six marks, with the timber flag twelve, or one of refusals
+//! 1 to 13, 18 and 22 to 24.
 
 mod borders;
 mod damaged;
@@ -8,6 +9,7 @@ mod last;
 mod low;
 mod sheer;
 mod sides;
+mod timber;
 mod types;
 
 use std::ops::Range;
@@ -17,6 +19,7 @@ use crate::heads::slips::Heads;
 use crate::lists::slips::Lists;
 use crate::sides::slips::Sides;
 use crate::slips::{self, tells, Slip, SLIPS};
+use crate::timber::slips::Timbers;
 use crate::{overlap, refused, Expected, Sample};
 use twin::marks;
 use twin::record::{self, House, RawShip, Ship};
@@ -32,6 +35,7 @@ pub struct Cases {
     pub lists: Lists,
     pub heads: Heads,
     pub sides: Sides,
+    pub timbers: Timbers,
 }
 
 impl Cases {
@@ -52,6 +56,7 @@ impl Cases {
         };
         self.heads.marks(&bytes, &line);
         self.sides.marks(&bytes, &line);
+        self.timbers.marks(&bytes, &line);
         self.samples.push(Sample::new(name, bytes, line, expected));
     }
 
@@ -98,6 +103,7 @@ impl Cases {
         self.lists.enough("marks");
         self.heads.enough("marks");
         self.sides.enough("marks");
+        self.timbers.enough("marks");
     }
 
     /// How many cases each group has; for each slip, how many cases of which group it changes.
@@ -178,6 +184,8 @@ pub fn cases() -> Cases {
     all.group("heads", damaged::heads);
     sides::groups(&mut all);
     all.group("sides", damaged::sides);
+    timber::groups(&mut all);
+    all.group("timber", damaged::timber);
     all.enough();
     all
 }

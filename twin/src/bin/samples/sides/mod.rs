@@ -266,8 +266,11 @@ fn versions(all: &mut Records) {
     let none = packed_as(Version::Three, &k1());
     let reduced = packed_as(Version::Three, &RawShip { kind: 2, ..bulk() });
     for (name, bytes) in [("set-in", &third), ("no-house", &none), ("type-2", &reduced)] {
+        // Version 4 without the timber flag.
         let fourth = over(bytes.clone(), VERSION, 4, 4);
-        all.bytes(&format!("version-4-{name}"), refused(2, 0), fourth);
+        all.bytes(&format!("version-4-{name}"), None, fourth);
+        let fifth = over(bytes.clone(), VERSION, 4, 5);
+        all.bytes(&format!("version-5-{name}"), refused(2, 0), fifth);
     }
     for kind in [5, 7] {
         let bytes = packed_as(Version::Three, &RawShip { kind, ..bulk() });

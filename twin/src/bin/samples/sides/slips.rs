@@ -11,7 +11,7 @@ use twin::refusal::Refusal;
 slips! {
     // In reading.
     ThirdRefused 2 "version 3 refused",
-    FourthRead 2 "version 4 read as version 3",
+    FifthRead 2 "version 5 read as version 3",
     PlainNotInThird 3 "types 0 and 1 refused in version 3",
     ReducedNotInThird 3 "types 2 to 4 refused in version 3",
     FirstHead 3 "version 3 read with 2 bits of type",
@@ -108,22 +108,23 @@ impl calls::Working for Working {
         }
     }
 
-    /// Refusals 1 to 11, 18, 22 and 23.
+    /// Refusals 1 to 11, 18 and 22 to 24.
     fn read(&self, bytes: &[u8]) -> Taken {
         Refusal::unless(bytes.len() >= HEADER_BYTES, Refusal::SHORT_RECORD)?;
         let head = self.head(bytes);
         let known = match self.slip {
-            Some(Slip::ThirdRefused) => 1..=2,
-            Some(Slip::FourthRead) => 1..=4,
-            _ => 1..=3,
+            Some(Slip::FifthRead) => 1..=5,
+            _ => 1..=4,
         };
         let kinds = match (head.version, self.slip) {
-            (1, _) | (3.., Some(Slip::ReducedNotInThird)) => 0..=1,
-            (3.., Some(Slip::PlainNotInThird)) => 2..=4,
+            (1, _) | (3, Some(Slip::ReducedNotInThird)) => 0..=1,
+            (3, Some(Slip::PlainNotInThird)) => 2..=4,
             _ => 0..=4,
         };
-        Refusal::unless(known.contains(&head.version), Refusal::VERSION)?;
+        let left_out = head.version == 3 && self.has(Slip::ThirdRefused);
+        Refusal::unless(known.contains(&head.version) && !left_out, Refusal::VERSION)?;
         Refusal::unless(kinds.contains(&head.kind), Refusal::KIND)?;
+        Refusal::unless(head.kind > 0 || !head.timber, Refusal::TIMBER)?;
         Refusal::unless(head.n <= MAX_HOUSES, Refusal::TOO_MANY_HOUSES)?;
         let layout = self.layout(bytes, &head).ok_or(Refusal::at(Refusal::RECORD_LENGTH, 0))?;
         let (raw, house_spare) = self.unpacked(layout, bytes, &head);
@@ -154,9 +155,10 @@ impl calls::Working for Working {
         record
     }
 
-    /// Refusals 3, 4, 7 to 11, 18, 22, 23 and 17.
+    /// Refusals 3, 4, 7 to 11, 18, 22 to 24 and 17.
     fn write(&self, buffer: &mut [u8], raw: &RawShip) -> Result<usize, Refusal> {
         Kind::of(raw.kind).ok_or(Refusal::at(Refusal::KIND, 0))?;
+        Refusal::unless(raw.kind > 0 || !raw.timber, Refusal::TIMBER)?;
         Refusal::unless(raw.n <= MAX_HOUSES as u64, Refusal::TOO_MANY_HOUSES)?;
         let late = self.judged(raw)?;
         let record = self.record(raw);
@@ -178,6 +180,7 @@ struct Head {
     version: u64,
     kind: u64,
     n: usize,
+    timber: bool,
     spare: u64,
 }
 
@@ -201,11 +204,16 @@ impl Working {
         let head = u64::from(u16::from_be_bytes([bytes[0], bytes[1]]));
         let version = head >> 12;
         let bits = if version < 2 || version == 3 && self.has(Slip::FirstHead) { 2 } else { 3 };
-        let spare = if version == 3 && self.has(Slip::HeadSpare) { 0 } else { 8 - bits };
+        let spare = match version {
+            3 if self.has(Slip::HeadSpare) => 0,
+            4 => 4,
+            _ => 8 - bits,
+        };
         Head {
             version,
             kind: head >> (12 - bits) & ((1 << bits) - 1),
             n: (head >> (8 - bits) & 15) as usize,
+            timber: version == 4 && head >> 4 & 1 == 1,
             spare: head & ((1 << spare) - 1),
         }
     }
@@ -214,8 +222,8 @@ impl Working {
     fn layout(&self, bytes: &[u8], head: &Head) -> Option<Version> {
         let (eight, twelve) = (Version::Two, Version::Three);
         let layouts = match (head.version, self.slip) {
-            (3.., Some(Slip::EightBytes)) => [eight; 2],
-            (3.., Some(Slip::EightBytesToo)) => [twelve, eight],
+            (3, Some(Slip::EightBytes)) => [eight; 2],
+            (3, Some(Slip::EightBytesToo)) => [twelve, eight],
             (3.., _) => [twelve; 2],
             (_, Some(Slip::TwelveBytes)) => [twelve; 2],
             (_, Some(Slip::TwelveBytesToo)) => [eight, twelve],
@@ -253,7 +261,7 @@ impl Working {
             }
             _ => {}
         }
-        (RawShip { kind: head.kind, n: head.n as u64, ..raw }, spare)
+        (RawShip { kind: head.kind, n: head.n as u64, timber: head.timber, ..raw }, spare)
     }
 
     /// A record of version 3 with the bytes of each house where they are looked for.
@@ -395,6 +403,7 @@ impl Working {
             _ => !house.has_full_breadth(),
         });
         match (self.slip, raw.kind) {
+            _ if raw.timber => Version::Four,
             (Some(Slip::WritesThird), _) => Version::Three,
             (Some(Slip::ByType), 2..) => Version::Two,
             (slip, _) if set_in && slip != Some(Slip::Drops) => Version::Three,

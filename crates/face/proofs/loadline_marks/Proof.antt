@@ -1,7 +1,6 @@
 use mathlib.Core.Bool.{true≢false}
 use mathlib.Core.Path.{_≡_, sym, ap, _∙_, subst}
 use native.Mathlib.Omega.{arith}
-use lib.Pow.{pow-pos}
 use denote.Ref.{now}
 use borrow.Author.Needs.{needs}
 use Rattle.ship.specs.Refusals.{numberOf}
@@ -14,7 +13,7 @@ use Rattle.timber.specs.declared.Answer.the-variants.{Given, WithTimber, Refuse
 use Rattle.timber.specs.Timber.{noTimber}
 use Rattle.timber.specs.Answer.{Sheet, sheet, sheetWith}
 use Rattle.steps.specs.Exact.{exactSummerOf}
-use Rattle.marks.specs.Marks.{answerIn, TimberBounded, Bounded}
+use Rattle.marks.specs.Marks.{answerIn, Bounded}
 use Rattle.marks.proofs.Sheet.{no-flag}
 use Rattle.answers.specs.declared.MarksAnswer.{MarksAnswer}
 use Rattle.answers.specs.Answers.{fromSheet}
@@ -38,4 +37,44 @@ unfolding fromSheet
 as-zeros c t e = ap (λ (z : TimberMarks). fromSheet (sheet (WithTimber (c .a .given .0 .0) z))) e
 
 pub loadline-marks-spec : {M : Type 1} → statement M
-loadline-marks-spec = ?
+unfolding fromSheet answerIn sheetWith noTimber
+loadline-marks-spec =
+    tie.close
+    (tie.spec
+    (λ c κs. search needs)
+    (λ c. search needs)
+    (λ c κs. search needs)
+    (λ c κs.
+    let a = c .before .before in
+    let r = a .before .before in (
+      small-in (now (r .before .before .args .bytes)) (a .a .given .0 .0) (ap (λ (z : Sheet). z .ordinary) (given a)),
+      rw (c .none .ensures) (omega arith),
+    ))
+    (λ c. search needs)
+    (λ c κs.
+    let a = c .before in
+    let r = a .before .before in
+    small-timber (now (r .before .before .args .bytes)) (a .a2 .given .0 .0) (a .a2 .given .0 .1 .0) (timbered a))
+    (λ c. search needs)
+    (λ c κs. search needs)
+    (λ c.
+    let n = c .before in
+    let a = n .before .before in
+    let r = a .before .before in
+    let s = now (r .before .before .args .bytes) in
+    let h : Holds (a .a .given .0 .0 .s) (exactSummerOf (shipIn s)) = subst (λ (y : Answer). Bounded y (shipIn s)) (a .a .given .1) (r .of-record .ensures .1) in (
+      c .marked .ensures ∙ as-zeros a (n .none .result) (n .none .ensures) ∙ ap fromSheet (given a),
+      λ z. (rw (c .marked .ensures) h, λ f. absurd (true≢false (sym f ∙ no-flag s (a .a .given .0 .0) (given a)))),
+    ))
+    (λ c.
+    let a = c .before .before in
+    let r = a .before .before in
+    let s = now (r .before .before .args .bytes) in
+    let h : Bounded (WithTimber (a .a2 .given .0 .0) (a .a2 .given .0 .1 .0)) (shipIn s) = subst (λ (y : Answer). Bounded y (shipIn s)) (a .a2 .given .1) (r .of-record .ensures .1) in (
+      c .marked2 .ensures ∙ ap fromSheet (timbered a),
+      λ z. rw (c .marked2 .ensures) (h .0, λ f g. h .1 g),
+    ))
+    (λ c.
+    let a = c .before .before in
+    let n : c .unmarked .result .verdict .number ≡ numberOf (a .a3 .given .0 .0) = ap (λ (y : MarksAnswer). y .verdict .number) (c .unmarked .ensures) in
+    (c .unmarked .ensures ∙ ap fromSheet (refused a), λ z. absurd (omega (arith, number-above-0 (a .a3 .given .0 .0))))))

@@ -1,9 +1,10 @@
--- Demand 2's exact value is the papers' formula worked with signed fractions and then held to the floor.
-use Prim.Native.Nat.{_+_, _≤_}
+-- Demand 2's exact value is the papers' formula worked with signed fractions and then held to the floor; that of LS is the formula as it stands.
+use Prim.Native.Nat.{ℕ, _+_, _≤_}
+use mathlib.Core.List.{List}
 use native.Mathlib.Omega.{arith}
 use Rattle.whole.specs.Frac.{Frac, _+f_, _*f_, whole, frac}
 use Rattle.units.specs.Datum.{lift, sheerAt}
-use Rattle.percentages.specs.Table37.{ordinaryRow}
+use Rattle.percentages.specs.Table37.{ordinaryRow, timberRow}
 use Rattle.ship.specs.declared.Ship.{Ship}
 use Rattle.ship.specs.Vessel.{housesOf}
 use Rattle.houses.specs.Length.{partOf}
@@ -18,8 +19,9 @@ use Rattle.bow.specs.Bow as Bow
 use Rattle.mark.specs.Summer.{exactSummer}
 use Rattle.steps.specs.Steps.{Sound, typeB, coveredS, forecastleHouse, amidshipsRatio, coverReach, basis}
 use Rattle.steps.specs.Exact.{exactE, exactAddedTo, exactTakenFrom, exactBowOf, exactSummerOf}
+use Rattle.steps.specs.Timber.{timberBasis, exactTimberAdded, exactTimberTaken}
 use Rattle.signed.specs.Signed.{_≈s_, plain, _+s_, _-s_}
-use Rattle.signed.specs.Summer.{corrected, bowOf, signedSummerOf}
+use Rattle.signed.specs.Summer.{correctedBy, bowOf, signedSummerOf, signedTimberOf}
 use Rattle.signed.proofs.Laws.{refl≈s, trans≈s, +s-same, -s-same, two-differences, held}
 use Rattle.signed.proofs.Depth.{depth-signed}
 use Rattle.signed.proofs.Sheer.{sheer-signed}
@@ -30,15 +32,15 @@ with-depth : (f a t d : Frac) → plain f +s (plain a -s plain t) -s plain d ≈
 with-depth f a t d = omega arith
 
 -- S is at most L, so that 0.75-S/2L is above zero
-corrected-same : (x : Ship) → Sound x → corrected x ≈s plain (exactAddedTo (basis x .exact) x) -s plain (exactTakenFrom ordinaryRow x)
-unfolding corrected exactAddedTo exactTakenFrom Before.exactAdded
-corrected-same x k =
+corrected-same : (line : Frac) (row : List ℕ) (x : Ship) → Sound x → correctedBy line row x ≈s plain (exactAddedTo line x) -s plain (exactTakenFrom row x)
+unfolding correctedBy exactAddedTo exactTakenFrom Before.exactAdded
+corrected-same line row x k =
     let l = x .length .0 in
     let ratio = amidshipsRatio x in
-    let f = Before.exactMadeFull (basis x .exact) (typeB x) l (counted (x .block)) (exactE x) in
+    let f = Before.exactMadeFull line (typeB x) l (counted (x .block)) (exactE x) in
     let a = exactDepthAddition l (x .depth .0) in
     let t = exactDepthReduction l (x .depth .0) ratio in
-    let d = exactDeducted (typeB x) ordinaryRow (exactEffective l (forecastleHouse x)) l (exactE x) in
+    let d = exactDeducted (typeB x) row (exactEffective l (forecastleHouse x)) l (exactE x) in
     let s : coveredS x ≤ l = unfold coveredS in covered-most l (housesOf x) (k .good .houses) in
     let b = trans≈s (-s-same (+s-same (refl≈s (plain f)) (depth-signed l (x .depth .0) ratio)) (refl≈s (plain d))) (with-depth f a t d) in
     trans≈s (+s-same b (sheer-signed (x .sheer) l (coveredS x) (coverReach x) (omega (arith, k .good .length-least)) s))
@@ -58,4 +60,8 @@ signed-summer x k =
     held (whole (basis x .floor)) (frac 1 1000) (exactAddedTo (basis x .exact) x) (exactTakenFrom ordinaryRow x)
     (Bow.exactB1 l *f Bow.exactB2Above l m cb cwf +f whole (Bow.sheerTaken sixth lift))
     (Bow.exactB1 l *f Bow.exactB2Below l m cb cwf +f whole (Bow.sheerTaken sixth fp + Bow.forecastleTaken l part height))
-    (corrected x) (bowOf x) (corrected-same x k) (bow-signed (x .sheer) l m cb cwf part height)
+    (correctedBy (basis x .exact) ordinaryRow x) (bowOf x) (corrected-same (basis x .exact) ordinaryRow x k) (bow-signed (x .sheer) l m cb cwf part height)
+
+pub signed-timber : (x : Ship) → Sound x → signedTimberOf x ≈s plain (exactTimberAdded x) -s plain (exactTimberTaken x)
+unfolding signedTimberOf
+signed-timber x k = corrected-same (timberBasis x .exact) timberRow x k

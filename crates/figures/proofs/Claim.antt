@@ -40,7 +40,7 @@ unfolding Pick.pick Divide.ceilDiv Row.gain Row.height Table27.table27 Table28.t
 Tools = Unit {0}
 
 unfoldable pub Reader : Type 0
-unfolding Fields.pack Fields.piece Fields.unpack Fields.number Layout.kindBits Layout.spareBits Layout.breadthBits Layout.houseSize Layout.lastTypeIn Layout.houseIn Layout.spareIn Layout.headIn Layout.placesIn Layout.shipIn Reading.sparesIn Checks.firstFrom Checks.fieldOut Checks.breaks Checks.breachAt Checks.firstBreach
+unfolding Fields.pack Fields.piece Fields.unpack Fields.number Layout.kindBits Layout.timberBits Layout.spareBits Layout.breadthBits Layout.houseSize Layout.lastTypeIn Layout.houseIn Layout.spareIn Layout.headIn Layout.placesIn Layout.shipIn Reading.sparesIn Checks.firstFrom Checks.fieldOut Checks.breaks Checks.breachAt Checks.firstBreach
 Reader = Unit {0}
 
 unfoldable pub Houses : Type 0

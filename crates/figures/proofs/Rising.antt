@@ -28,6 +28,7 @@ unfoldable pub rising : Ship
 rising = record {
   kind = 0;
   n = 1;
+  timber = false;
   length = record { 0 = 80000 };
   depth = record { 0 = 6500 };
   moulded = record { 0 = 6500 };

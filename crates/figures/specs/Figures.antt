@@ -57,11 +57,11 @@ forecastle = 0x82 ∷ 0x71 ∷ 0x00 ∷ 0x15 ∷ 0xf9 ∷ 0x03 ∷ 0xe8 ∷ 0x00
 unfoldable pub k2 : List ℕ
 k2 = 0x14 ∷ 0x40 ∷ particulars ++ forecastle
 
--- the fields of the head, in the record's order: version, type, n, spare, fields 1 to 13
+-- the fields of the head, in the record's order: version, type, n, timber flag, spare, fields 1 to 13
 abbrev pub headRow : ℕ → List ℕ → ℕ → Row
 headRow k s n =
     row k (headFields (headIn s))
-    (1 ∷ 1 ∷ n ∷ 0 ∷ 90000 ∷ 6000 ∷ 6000 ∷ 6800 ∷ 8000 ∷ 1000 ∷ 444 ∷ 112 ∷ 224 ∷ 888 ∷ 2000 ∷ 0 ∷ 0 ∷ [])
+    (1 ∷ 1 ∷ n ∷ 0 ∷ 0 ∷ 90000 ∷ 6000 ∷ 6000 ∷ 6800 ∷ 8000 ∷ 1000 ∷ 444 ∷ 112 ∷ 224 ∷ 888 ∷ 2000 ∷ 0 ∷ 0 ∷ [])
 
 -- ---- what is worked from a ship
 -- the freeboard before bow height, and the bow height (39)

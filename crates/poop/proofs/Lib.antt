@@ -1,3 +1,4 @@
 pub mod Replies
 pub mod Theorems
 pub mod Split
+pub mod Flag

@@ -1,4 +1,4 @@
--- 01, the shortest-poop question: refusals 1 to 11, 22 after 7, 23 after 9, and 18 with 11, then 14, 15 and 16, in the papers' order, and the shortest length that fits.
+-- 01, the shortest-poop question: refusals 1 to 11, 24 after 3, 22 after 7, 23 after 9, and 18 with 11, then 14, 15 and 16, in the papers' order, and the shortest length that fits.
 use Prim.Native.Nat.{ℕ, zero, suc, _+_, _*_, _/_, _≤_, _<_}
 use mathlib.Core.Bool.{Bool, true, false, _&&_, _||_}
 use mathlib.Core.List.{List, [], _∷_, _++_}

@@ -1,7 +1,8 @@
--- 02: the figures stated with its requests and their readings, in the same form; for §8, which has none, figures worked by hand, and for §5 and §6 some besides. A row has the request's number.
+-- 02: the figures stated with its requests and their readings, in the same form; for §8, which has none, figures worked by hand, and for §5, §6 and §9 some besides. A row has the request's number.
 use Prim.Native.Nat.{ℕ, _+_, _*_}
 use mathlib.Core.Bool.{true}
-use mathlib.Core.List.{List, [], _∷_, _++_}
+use mathlib.Core.List.{List, [], _∷_, _++_, map}
+use lib.IntN.{ℤ, pos, _-ℤ_}
 use lib.ListN.{drop}
 use Rattle.whole.specs.Frac.{ceil}
 use Rattle.units.specs.Datum.{lift}
@@ -22,7 +23,8 @@ use Rattle.sheer.specs.Sheer.{exactDeficiency, exactAddition, excess, deficienc
 use Rattle.percentages.specs.Table37.{ordinaryRow}
 use Rattle.deduction.specs.Deduction37.{deducted}
 use Rattle.steps.specs.Steps.{effectiveE, summerOf}
-use Rattle.marks.specs.Marks.{sheetIn}
+use Rattle.timber.specs.Answer.{Sheet}
+use Rattle.marks.specs.Marks.{sheetIn, answerIn}
 use Rattle.trial.specs.Poop.{withPoop}
 use Rattle.question.specs.Question.{Reply, replyIn}
 use Rattle.figures.specs.Figures.{Row, row, one, k1, k2, particulars, forecastle, deductionOf, refusalOf, marksRow, askedRow, setIn, house}
@@ -132,6 +134,53 @@ flat8 = addition (deficiency (7 * lift) (7 * lift) 90001) 90001 0
 abbrev pub unrounded8 : ℕ
 unrounded8 = ceil (exactAddition (exactDeficiency (7 * lift) (7 * lift) 90001) 90001 0)
 
+-- ---- §9: the six timber marks of a record that is accepted; and so many mm below zero
+unfoldable pub timberRow : ℕ → Sheet → List ℤ → Row
+timberRow k a stated =
+    let t = a .timber in
+    record {
+      figure = k;
+      given = map pos (refusalOf (a .ordinary .verdict)) ++ (t .ls ∷ t .lt ∷ t .lw ∷ pos (t .lwna) ∷ t .lf ∷ t .ltf ∷ []);
+      stated = map pos (0 ∷ 0 ∷ 0 ∷ []) ++ stated;
+    }
+
+abbrev pub less : ℕ → ℤ
+less mm = pos 0 -ℤ pos mm
+
+-- k1 in version 4 with the flag, and k2 by its first two bytes, its house of full breadth; sample/timber.record is k2 with the flag
+unfoldable pub bare9 : List ℕ
+bare9 = 0x42 ∷ 0x10 ∷ particulars
+
+abbrev pub full9 : List ℕ
+full9 = 0x00 ∷ 0x00 ∷ 0x00 ∷ 0x00 ∷ []
+
+unfoldable pub flagged9 : ℕ → ℕ → List ℕ
+flagged9 a b = a ∷ b ∷ particulars ++ forecastle ++ full9
+
+-- §5's ship of 120 m as B-100
+unfoldable pub reduced9 : List ℕ
+reduced9 = long5 0x46 0x30 ++ forward ++ full9
+
+-- L 80 m, D 4200, M 6000 and a full house of 2400 mm: as type B with 1.3 times the standard sheer, and with portable covers and k1's sheer
+unfoldable pub house9 : List ℕ
+house9 = 0x80 ∷ 0x00 ∷ 0x00 ∷ 0x13 ∷ 0x88 ∷ 0x04 ∷ 0xb0 ∷ 0x00 ∷ 0x00 ∷ 0x00 ∷ 0x00 ∷ 0x00 ∷ []
+
+unfoldable pub low9 : List ℕ
+low9 =
+    0x42 ∷ 0x30 ∷ 0x13 ∷ 0x88 ∷ 0x01 ∷ 0x06 ∷ 0x81 ∷ 0x77 ∷ 0x06 ∷ 0xa4 ∷ 0x1f ∷ 0x40 ∷ 0x12 ∷ 0xa0
+    ∷ 0x21 ∷ 0x10 ∷ 0x21 ∷ 0x41 ∷ 0x0b ∷ 0x10 ∷ 0x88 ∷ 0x94 ∷ 0xf0 ∷ 0x00 ∷ 0x00 ∷ 0x00 ∷ 0x00 ∷ []
+    ++ house9
+
+unfoldable pub covers9 : List ℕ
+covers9 =
+    0x48 ∷ 0x30 ∷ 0x13 ∷ 0x88 ∷ 0x01 ∷ 0x06 ∷ 0x81 ∷ 0x77 ∷ 0x06 ∷ 0xa4 ∷ 0x1f ∷ 0x40 ∷ 0x0f ∷ 0xa0
+    ∷ 0x1b ∷ 0xc0 ∷ 0x1c ∷ 0x00 ∷ 0xe0 ∷ 0x0d ∷ 0xe0 ∷ 0x7d ∷ 0x00 ∷ 0x00 ∷ 0x00 ∷ 0x00 ∷ 0x00 ∷ []
+    ++ house9
+
+-- B-60, L 120 m, M 2000, Cb 0.7, Cwf 1 and no house, whose LS is 1715 mm; by the byte with D's last digit: 0x40 is a D of 1716, 0x30 one of 1715 mm
+unfoldable pub depth9 : ℕ → List ℕ
+depth9 d = 0x44 ∷ 0x10 ∷ 0x1d ∷ 0x4c ∷ 0x00 ∷ 0x6b ∷ d ∷ 0x7d ∷ 0x06 ∷ 0xd6 ∷ 0x27 ∷ 0x10 ∷ drop 2 hullForms
+
 -- ---- the table. The long questions stand last: each of their searches goes over more than 900 lengths
 unfoldable pub requests : List Row
 requests =
@@ -187,7 +236,7 @@ requests =
     ∷ refusalRow 5 (readingIn (other5 0x18 0x18 0x6a 0x11) .verdict) (3 ∷ 0 ∷ 0 ∷ [])
     ∷ refusalRow 5 (readingIn (other5 0x2a 0x18 0x6a 0x11) .verdict) (3 ∷ 0 ∷ 0 ∷ [])
     ∷ refusalRow 5 (readingIn (other5 0x04 0x18 0x6a 0x11) .verdict) (2 ∷ 0 ∷ 0 ∷ [])
-    ∷ refusalRow 5 (readingIn (other5 0x44 0x18 0x6a 0x11) .verdict) (2 ∷ 0 ∷ 0 ∷ [])
+    ∷ refusalRow 5 (readingIn (other5 0x54 0x18 0x6a 0x11) .verdict) (2 ∷ 0 ∷ 0 ∷ [])
     ∷ refusalRow 5 (readingIn second5 .verdict) (0 ∷ 0 ∷ 0 ∷ [])
     ∷ row 5 (recordBytes (shipIn second5)) k1
     ∷ row 5 (recordBytes (shipIn covered5)) covered5
@@ -224,6 +273,28 @@ requests =
     ∷ one 8 (over8 2002) 8375
     ∷ one 8 flat8 375192
     ∷ one 8 unrounded8 375191
+    ∷ timberRow 9 (answerIn bare9) (pos 1102 ∷ pos 1000 ∷ pos 1239 ∷ pos 2163 ∷ pos 1000 ∷ pos 898 ∷ [])
+    ∷ timberRow 9 (answerIn (flagged9 0x42 0x30)) (pos 807 ∷ pos 699 ∷ pos 952 ∷ pos 1178 ∷ pos 699 ∷ pos 591 ∷ [])
+    ∷ marksRow 9 (sheetIn (flagged9 0x42 0x30)) (0 ∷ 0 ∷ 0 ∷ 1024 ∷ 921 ∷ 1128 ∷ 1178 ∷ 921 ∷ 818 ∷ [])
+    ∷ timberRow 9 (answerIn (flagged9 0x42 0x20)) (pos 0 ∷ pos 0 ∷ pos 0 ∷ pos 0 ∷ pos 0 ∷ pos 0 ∷ [])
+    ∷ timberRow 9 (answerIn (flagged9 0x48 0x30)) (pos 857 ∷ pos 750 ∷ pos 1000 ∷ pos 1227 ∷ pos 750 ∷ pos 643 ∷ [])
+    ∷ timberRow 9 (answerIn reduced9) (pos 1382 ∷ pos 1245 ∷ pos 1536 ∷ pos 1536 ∷ pos 1245 ∷ pos 1108 ∷ [])
+    ∷ timberRow 9 (answerIn low9) (less 154 ∷ less 244 ∷ less 33 ∷ pos 187 ∷ less 244 ∷ less 334 ∷ [])
+    ∷ one 9 (summerIn low9) 50
+    ∷ timberRow 9 (answerIn covers9) (less 80 ∷ less 169 ∷ pos 39 ∷ pos 285 ∷ less 169 ∷ less 258 ∷ [])
+    ∷ one 9 (summerIn covers9) 150
+    ∷ timberRow 9 (answerIn (depth9 0x40)) (pos 1715 ∷ pos 1715 ∷ pos 1578 ∷ pos 1578 ∷ pos 1715 ∷ pos 1715 ∷ [])
+    ∷ timberRow 9 (answerIn (depth9 0x30)) (pos 0 ∷ pos 0 ∷ pos 0 ∷ pos 0 ∷ pos 0 ∷ pos 0 ∷ [])
+    ∷ one 9 (summerIn (depth9 0x30)) 1575
+    ∷ refusalRow 9 (readingIn (flagged9 0x40 0x30) .verdict) (24 ∷ 0 ∷ 0 ∷ [])
+    ∷ refusalRow 9 (readingIn (flagged9 0x41 0x30) .verdict) (24 ∷ 0 ∷ 0 ∷ [])
+    ∷ refusalRow 9 (writingOf 0 (shipIn (flagged9 0x41 0x30))) (24 ∷ 0 ∷ 0 ∷ [])
+    ∷ refusalRow 9 (readingIn (flagged9 0x4a 0x30) .verdict) (3 ∷ 0 ∷ 0 ∷ [])
+    ∷ refusalRow 9 (readingIn (flagged9 0x32 0x30) .verdict) (6 ∷ 0 ∷ 0 ∷ [])
+    ∷ refusalRow 9 (readingIn (flagged9 0x42 0x28) .verdict) (6 ∷ 0 ∷ 0 ∷ [])
+    ∷ refusalRow 9 (readingIn (flagged9 0x52 0x30) .verdict) (2 ∷ 0 ∷ 0 ∷ [])
+    ∷ row 9 (recordBytes (shipIn (flagged9 0x42 0x30))) (flagged9 0x42 0x30)
+    ∷ row 9 (recordBytes (shipIn (flagged9 0x42 0x20))) k2
     ∷ askedRow 4 (asked4 785) (0 ∷ 0 ∷ 0 ∷ 959 ∷ [])
     ∷ askedRow 4 (asked4 784) (0 ∷ 0 ∷ 0 ∷ 960 ∷ [])
     ∷ askedRow 4 (asked4 534) (0 ∷ 0 ∷ 0 ∷ 960 ∷ [])

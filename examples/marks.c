@@ -41,6 +41,17 @@ static void refused(uint64_t number, uint64_t place, uint64_t overlap)
     printf("\n");
 }
 
+/* The six marks, and the six timber marks if there are any. */
+static void show(loadline_marks_answer m)
+{
+    printf("S %" PRId64 " T %" PRId64 " W %" PRId64 " WNA %" PRId64 " F %" PRId64 " TF %" PRId64,
+           m.s, m.t, m.w, m.wna, m.f, m.tf);
+    if (m.lwna > 0)
+        printf(" LS %" PRId64 " LT %" PRId64 " LW %" PRId64 " LWNA %" PRId64 " LF %" PRId64 " LTF %" PRId64,
+               m.ls, m.lt, m.lw, m.lwna, m.lf, m.ltf);
+    printf("\n");
+}
+
 int main(int argc, char **argv)
 {
     if (argc != 2) {
@@ -59,8 +70,7 @@ int main(int argc, char **argv)
     if (m.refusal != LOADLINE_ACCEPTED)
         refused(m.refusal, m.place, m.overlap);
     else
-        printf("S %" PRId64 " T %" PRId64 " W %" PRId64 " WNA %" PRId64 " F %" PRId64 " TF %" PRId64 "\n",
-               m.s, m.t, m.w, m.wna, m.f, m.tf);
+        show(m);
 
     loadline_read_answer read = loadline_read(record, length);
     if (read.refusal != LOADLINE_ACCEPTED) {

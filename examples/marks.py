@@ -25,7 +25,7 @@ class House(Structure):
 
 class Ship(Structure):
     _fields_ = [
-        *((name, u64) for name in ("kind", "n", "length", "depth", "moulded", "block", "waterplane")),
+        *((name, u64) for name in ("kind", "n", "timber", "length", "depth", "moulded", "block", "waterplane")),
         ("sheer", i64 * 6),
         ("displacement", u64),
         ("immersion", u64),
@@ -43,7 +43,16 @@ class Answer(Structure):
 
 
 class MarksAnswer(Answer):
-    _fields_ = [(name, i64) for name in ("s", "t", "w", "wna", "f", "tf")]
+    _fields_ = [
+        (name, i64) for name in ("s", "t", "w", "wna", "f", "tf", "ls", "lt", "lw", "lwna", "lf", "ltf")
+    ]
+
+    def __str__(self):
+        if self.refusal:
+            return super().__str__()
+        timber = ("ls", "lt", "lw", "lwna", "lf", "ltf") if self.lwna else ()  # if there are any
+        names = ("s", "t", "w", "wna", "f", "tf", *timber)
+        return " ".join(f"{name.upper()} {getattr(self, name)}" for name in names)
 
 
 class PoopAnswer(Answer):
@@ -59,7 +68,7 @@ class WriteAnswer(Answer):
 
 
 # The number is the header's: a library with other structs, calls or kinds has another.
-library = CDLL(str(Path(__file__).resolve().parent.parent / "target/lib/libloadline.so.4"))
+library = CDLL(str(Path(__file__).resolve().parent.parent / "target/lib/libloadline.so.5"))
 # ctypes takes what is not declared for a C int, so each call is declared.
 for call, result, arguments in (
     (library.loadline_marks, MarksAnswer, [c_char_p, c_size_t]),
@@ -71,8 +80,7 @@ for call, result, arguments in (
 
 
 def show(record):
-    m = library.loadline_marks(record, len(record))
-    print(m if m.refusal else f"S {m.s} T {m.t} W {m.w} WNA {m.wna} F {m.f} TF {m.tf}")
+    print(library.loadline_marks(record, len(record)))
 
     read = library.loadline_read(record, len(record))
     if read.refusal:

@@ -10,10 +10,14 @@ mod loadline {
     pub struct House { pub enclosed: u64, pub quarterdeck: u64, pub aft: i64, pub fore: i64, pub height: u64, pub breadth: u64, pub beam: u64 }
     #[repr(C)] #[derive(Clone, Copy)]
     pub struct Ship {
-        pub kind: u64, pub n: u64, pub length: u64, pub depth: u64, pub moulded: u64, pub block: u64, pub waterplane: u64,
+        pub kind: u64, pub n: u64, pub timber: u64, pub length: u64, pub depth: u64, pub moulded: u64, pub block: u64, pub waterplane: u64,
         pub sheer: [i64; 6], pub displacement: u64, pub immersion: u64, pub houses: [House; 8],
     }
-    #[repr(C)] pub struct Marks { pub s: i64, pub t: i64, pub w: i64, pub wna: i64, pub f: i64, pub tf: i64 }
+    #[repr(C)]
+    pub struct Marks {
+        pub s: i64, pub t: i64, pub w: i64, pub wna: i64, pub f: i64, pub tf: i64,
+        pub ls: i64, pub lt: i64, pub lw: i64, pub lwna: i64, pub lf: i64, pub ltf: i64,
+    }
     /// The overlap, in mm, is 0 but for houses that overlap.
     #[repr(C)] pub struct Refusal { pub number: u64, pub place: u64, pub overlap: u64 }
     /// What each call gives: the refusal, its number 0 for none, then the rest.
@@ -58,9 +62,21 @@ impl std::fmt::Display for loadline::Refusal {
     }
 }
 
+/// The six marks, and the six timber marks if there are any.
+impl std::fmt::Display for loadline::Marks {
+    fn fmt(&self, f: &mut std::fmt::Formatter) -> std::fmt::Result {
+        write!(f, "S {} T {} W {} WNA {} F {} TF {}", self.s, self.t, self.w, self.wna, self.f, self.tf)?;
+        if self.lwna > 0 {
+            let [s, t, w, wna, fresh, tf] = [self.ls, self.lt, self.lw, self.lwna, self.lf, self.ltf];
+            write!(f, " LS {s} LT {t} LW {w} LWNA {wna} LF {fresh} LTF {tf}")?;
+        }
+        Ok(())
+    }
+}
+
 fn show(record: &[u8]) -> Result<(), loadline::Refusal> {
     match loadline::marks(record) {
-        Ok(m) => println!("S {} T {} W {} WNA {} F {} TF {}", m.s, m.t, m.w, m.wna, m.f, m.tf),
+        Ok(m) => println!("{m}"),
         Err(r) => println!("{r}"),
     }
     let ship = loadline::read(record)?;

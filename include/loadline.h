@@ -1,8 +1,9 @@
 /*
  * loadline.h: load-line marks that are proved.
  *
- * From a ship record of at most 123 bytes, of version 1 to 3: the six marks of the load-line Convention's Annex I with the
- * 2003 amendments, or one numbered refusal; the shortest poop for a wished summer mark; a reader and a writer of the record.
+ * From a ship record of at most 123 bytes, of version 1 to 4: the six marks of the load-line Convention's Annex I with the
+ * 2003 amendments, and the six timber marks where they are asked for, or one numbered refusal; the shortest poop for a wished
+ * summer mark; a reader and a writer of the record.
  *
  * For x86-64 Linux. Link libloadline.a, or libloadline.so; ./library makes both. They need memcpy and nothing else.
  * No call allocates, keeps state, prints or fails in any way but a numbered refusal. Any number of threads may call at
@@ -27,10 +28,11 @@
  *
  *   No.  When                                                              Place                         Calls
  *    1   under 27 bytes                                                                                  M P R
- *    2   version 0 or above 3                                                                            M P R
+ *    2   version 0 or above 4                                                                            M P R
  *    3   type above 4; above 1 in a record of version 1                                                  M P R W
+ *   24   timber flag on a type A ship                                                                    M P R W
  *    4   n above 8                                                                                       M P R W
- *    5   length is not 27 + 8n; 27 + 12n in a record of version 3                                        M P R
+ *    5   length is not 27 + 8n; 27 + 12n in a record of version 3 or 4                                   M P R
  *    6   a spare bit set                                                                                 M P R
  *    7   a field 1 to 13 outside its range or bits                         lowest such field             M P R W
  *   22   type B-60 or B-100 of 100 m or less, or portable covers
@@ -64,8 +66,9 @@
 
 /* Another number with every change of a struct, a call, or what a number of an answer may be. The shared library carries it
  * in its own name, libloadline.so.N, so that no program that was linked to one loads it for another.
- * 2: every answer has an overlap. 3: kinds 2 to 4, refusal 22. 4: a house has breadths, refusal 23. */
-#define LOADLINE_HEADER 4
+ * 2: every answer has an overlap. 3: kinds 2 to 4, refusal 22. 4: a house has breadths, refusal 23. 5: a ship has a timber
+ * flag and the marks six timber marks, refusal 24. */
+#define LOADLINE_HEADER 5
 
 #ifdef __cplusplus
 extern "C" {
@@ -93,12 +96,14 @@ enum loadline_refusal {
     LOADLINE_SHORT_BUFFER = 17,
     LOADLINE_OUT_OF_ORDER = 18,
     LOADLINE_LENGTH_FOR_TYPE = 22,
-    LOADLINE_BREADTHS = 23
+    LOADLINE_BREADTHS = 23,
+    LOADLINE_TIMBER_FOR_A = 24
 };
 
 /* What a ship's `kind` may be: its type, as regulation 27 has it. All but A are type B ships, whose
  * marks are worked alike, but for the line that they begin from and the least freeboard. The version is that in which a ship
- * is written whose houses all have full breadth; if one of them has breadths, equal ones too, it is 3.
+ * without the timber flag is written whose houses all have full breadth; if one of them has breadths, equal ones too, it is 3,
+ * and with the flag 4. Timber marks have no least freeboard, and begin from the line of the type, for B-60 and B-100 from B's.
  *
  *   Type             The line                                                     Least S and T   Version
  *   A                table 28.1                                                   50 mm           1
@@ -114,7 +119,7 @@ enum loadline_kind {
     LOADLINE_TYPE_B_PORTABLE_COVERS = 4
 };
 
-/* A record has 27 + 8n bytes for n houses, and 27 + 12n in version 3. To take one from a file, read up to LOADLINE_MOST_BYTES + 1
+/* A record has 27 + 8n bytes for n houses, and 27 + 12n in versions 3 and 4. To take one from a file, read up to LOADLINE_MOST_BYTES + 1
  * bytes: the one more tells a longer file, which is refused, from a record. */
 enum { LOADLINE_LEAST_BYTES = 27, LOADLINE_MOST_BYTES = 123, LOADLINE_MOST_HOUSES = 8 };
 
@@ -134,6 +139,8 @@ typedef struct {
 typedef struct {
     uint64_t kind;          /* type, one of loadline_kind: 0 to 4 */
     uint64_t n;             /* houses, 0 to 8 */
+    uint64_t timber;        /* flag: timber freeboards are asked for, with a deck cargo and a ship as regulations 43 and 44
+                               want them, which is not tested */
     uint64_t length;        /*  1 L, mm, 24000 to 365000 */
     uint64_t depth;         /*  2 D, depth for freeboard, mm, 1000 to 60000 */
     uint64_t moulded;       /*  3 M, least moulded depth, mm, 1000 to 60000 */
@@ -152,6 +159,10 @@ typedef struct {
     int64_t s, t, w, wna, f, tf;    /* freeboards, mm: summer, tropical, winter, winter North Atlantic, fresh,
                                        tropical fresh. s and t are at least 50, with portable covers 150;
                                        f and tf may be negative */
+    int64_t ls, lt, lw, lwna, lf, ltf;  /* timber freeboards, mm: summer, tropical, winter, winter North Atlantic, fresh,
+                                       tropical fresh; all but lwna may be negative. All six are 0 without the flag, and
+                                       where LS would be at or above D, which only B-60 and B-100 can have. Otherwise
+                                       lwna is above 0 */
 } loadline_marks_answer;
 
 typedef struct {
@@ -171,26 +182,28 @@ typedef struct {
 
 /* In all calls the pointer is to `length` bytes; with length 0 it may be NULL. A record is never changed. */
 
-/* The six marks of a record. S is never below the value worked without rounding, and less than 1.1 mm above it.
- * Refuses 1 to 13, 18, 22 and 23. */
+/* The six marks of a record, and its six timber marks if it has the flag. S is never below the value worked without
+ * rounding, and less than 1.1 mm above it; and so is LS, where it is given. LT is at most LS, and LS at most LW, but where a
+ * B-60 or B-100 ship's LW is level with its W. Of types B and B with portable covers LS is at most S. The flag changes no
+ * ordinary mark. Refuses 1 to 13, 18 and 22 to 24. */
 loadline_marks_answer loadline_marks(const uint8_t *record, size_t length);
 
 /* The shortest poop for which the record's ship would have marks with S at most `wish` mm: an enclosed house of `height` mm
  * from the after perpendicular, set before the others, in whole decimetres up to L. Every shorter one has been ruled out.
  * It asks by the ship's own type: with portable covers S is never below 150 mm, so that a wish of 50 to 149 has no length (16).
- * The poop has full breadth.
- * Refuses 1 to 11, 18, 22 and 23, then 14 to 16. The record's own marks need not exist: 12 and 13 are no refusals here. */
+ * The poop has full breadth. The wish is for S, with the timber flag too.
+ * Refuses 1 to 11, 18 and 22 to 24, then 14 to 16. The record's own marks need not exist: 12 and 13 are no refusals here. */
 loadline_poop_answer loadline_shortest_poop(const uint8_t *record, size_t length, uint64_t height, uint64_t wish);
 
 /* The ship of a record of any version. Writing it gives the same bytes back where the record is in the lowest version that
- * holds the ship: 3 for a ship of whose houses one has breadths, else 1 for types A and B and 2 for the others. Otherwise it
- * gives a record of that version, which is no longer and reads as the same ship.
- * Refuses 1 to 11, 18, 22 and 23. */
+ * holds the ship: 4 with the timber flag, else 3 for a ship of whose houses one has breadths, else 1 for types A and B and 2
+ * for the others. Otherwise it gives a record of that version, which is no longer and reads as the same ship.
+ * Refuses 1 to 11, 18 and 22 to 24. */
 loadline_read_answer loadline_read(const uint8_t *record, size_t length);
 
 /* Writes the ship's record at the buffer's start, in the lowest version that holds the ship. Reading it gives the ship back.
  * Places beyond n are ignored. An accepted write changes the first `bytes` bytes only, a refused one none. A number too big
- * for the record is refused as any other outside its range. Refuses 3, 4, 7 to 11, 18, 22, 23 and 17; 17 comes last, so that a
+ * for the record is refused as any other outside its range. Refuses 3, 24, 4, 7 to 11, 18, 22, 23 and 17; 17 comes last, so that a
  * short buffer hides no fault of the ship. */
 loadline_write_answer loadline_write(uint8_t *buffer, size_t length, loadline_ship ship);
 

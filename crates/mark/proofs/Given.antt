@@ -26,8 +26,7 @@ pub six-small : (p : Particulars) (S : ℕ) → S < p .depth .0 → p .depth .0 
     → let m = sixMarks p S in (m .s ≤ 60000) × (m .t ≤ 60000) × (m .w ≤ 120000) × (m .wna ≤ 120050)
 unfolding sixMarks tropical winter atlantic
 six-small p S h d f =
-    let c = ceil-lt (draughtAt p S) 48 (omega arith) in
-    (
+    let c = ceil-lt (draughtAt p S) 48 (omega arith) in (
       omega arith,
       omega arith,
       omega (arith, c),

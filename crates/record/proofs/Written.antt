@@ -126,6 +126,7 @@ lowest-is-lowest x version l holds = flag (x .timber) refl l
         by-cases (λ (v : ℕ). version < v → ⊥) (ltb (lastTypeIn 1) (x .kind)) _ _
         (λ t n. let o : version ≡ 1 = omega (arith, holds .0) in omega (arith, ltb-true (lastTypeIn 1) (x .kind) t, rw o at (holds .2)))
         (λ t n. omega (arith, holds .0)) m
+
     flag : (b : Bool) → x .timber ≡ b → version < pick b 4 (pick (anySetIn (housesOf x)) 3 (pick (ltb (lastTypeIn 1) (x .kind)) 2 1)) → ⊥
     flag true e m = let low : leb version 3 ≡ true = le-leb version 3 (omega arith) in let f = rw (low, e) at (holds .3) in omega (arith, f)
     flag false e m = go (anySetIn (housesOf x)) refl m

@@ -19,8 +19,7 @@ taken-spec =
     (λ c.
     let s = c .before in
     let g = s .before in
-    let f = g .before in
-    (
+    let f = g .before in (
       rw (c .sum2 .ensures, s .sum .ensures, g .if-granted .ensures .0, f .deduction-by .ensures .0, f .before .reduction .ensures .0) refl,
       omega (arith, c .sum2 .ensures, s .sum .ensures, g .if-granted .ensures .1, f .deduction-by .ensures .1, f .before .reduction .ensures .1),
     )))

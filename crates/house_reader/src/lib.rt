@@ -1,4 +1,4 @@
-// The houses of a record, read from their bytes behind the head: eight each, and in version 3 four more with the breadths.
+// The houses of a record, read from their bytes behind the head: eight each, and from version 3 on four more with the breadths.
 ghost use mathlib.Core.Path.{_≡_};
 ghost use Prim.Native.Nat.{_≤_};
 ghost use lib.ListN.{length};

@@ -1,4 +1,4 @@
-// The houses of a record, written over their bytes behind the head: eight each, and in version 3 four more with the breadths.
+// The houses of a record, written over their bytes behind the head: eight each, and from version 3 on four more with the breadths.
 ghost use mathlib.Core.Path.{_≡_};
 ghost use Prim.Native.Nat.{_-_, _≤_, _<_};
 ghost use mathlib.Core.List.{_++_};
@@ -26,7 +26,7 @@ fn put_house(out: &mut [u8], h: House)
     bits::put_two(out, HOUSE_WORD, word * range::HOUSE_SPARE, breadths);
 }
 
-// Writes the first `n` houses, each in its own bytes: from 27 + 8k on, and in version 3 from 27 + 12k on.
+// Writes the first `n` houses, each in its own bytes: from 27 + 8k on, and from version 3 on from 27 + 12k on.
 pub fn put_houses(buf: &mut [u8], version: u64, houses: [House; 8], n: usize)
     requires { ⌜ (n ≤ 8) × (recordLength version n ≤ length (now buf)) ⌝ }
     requires { ⌜ HousesFit version (take n houses) ⌝ }

@@ -1,4 +1,4 @@
-// The shortest-poop question: on a ship, or on any bytes as a ship record, with refusals 1 to 11, 18, 22 and 23, then 14 to 16.
+// The shortest-poop question: on a ship, or on any bytes as a ship record, with refusals 1 to 11, 18 and 22 to 24, then 14 to 16.
 ghost use mathlib.Core.Path.{_≡_};
 ghost use Rattle.steps.specs.Steps.{Sound};
 ghost use Rattle.question.specs.Question.{reply, noRoom, replyFor, replyIn};

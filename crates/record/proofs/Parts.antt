@@ -59,7 +59,7 @@ pub house-total : (version : ℕ) → total (houseWidths version) ≡ 8 * houseS
 unfolding breadthBits houseSize
 house-total version = by-both (λ (w n : ℕ). 1 + (1 + (21 + (21 + (13 + (7 + (w + (w + 0))))))) ≡ 8 * n) (leb version 2) 0 16 8 12 (λ t. refl) (λ t. refl)
 
--- the eight bytes, and in version 3 the breadths behind them
+-- the eight bytes, and from version 3 on the breadths behind them
 pub size-within : (version : ℕ) → (8 ≤ houseSize version) × (houseSize version ≤ 12)
 unfolding houseSize
 size-within version = by-cases (λ (n : ℕ). (8 ≤ n) × (n ≤ 12)) (leb version 2) _ _ (λ t. omega arith) (λ t. omega arith)

@@ -10,7 +10,7 @@ use Rattle.whole.specs.Sign.{above, under}
 use Rattle.timber.specs.declared.Level.{Level}
 use Rattle.timber.specs.declared.TimberMarks.{TimberMarks}
 
--- 45(1): LS: what is added less what is taken, in um, up to whole mm: above zero away from it, below zero towards it. 45(6): from the ordinary line of type B
+-- 45(1): LS: what is added less what is taken, in um, up to whole mm: above zero away from it, below zero towards it
 unfoldable pub timberSummer : ℕ → ℕ → ℤ
 timberSummer added taken = pos (ceilDiv (added - taken) 1000) -ℤ pos ((taken - added) / 1000)
 

@@ -31,6 +31,6 @@ isReduced kind = eqb kind kindB60 || eqb kind kindB100
 unfoldable pub timberKind : ℕ → ℕ
 timberKind kind = pick (isReduced kind) kindB kind
 
--- 24: timber freeboards asked for a type A ship; 45(1) begins from the lines of type B alone
+-- 24: timber freeboards asked for a type A ship; 45(1) begins from 27(5) and (6), which are of type B
 abbrev pub timberForA : ℕ → Bool → Bool
 timberForA kind timber = timber && eqb kind kindA

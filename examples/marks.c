@@ -41,12 +41,12 @@ static void refused(uint64_t number, uint64_t place, uint64_t overlap)
     printf("\n");
 }
 
-/* The six marks, and the six timber marks if there are any. */
-static void show(loadline_marks_answer m)
+/* The six marks, and the six timber marks if they are asked for: zeros where there are none. */
+static void show(loadline_marks_answer m, bool timber)
 {
     printf("S %" PRId64 " T %" PRId64 " W %" PRId64 " WNA %" PRId64 " F %" PRId64 " TF %" PRId64,
            m.s, m.t, m.w, m.wna, m.f, m.tf);
-    if (m.lwna > 0)
+    if (timber)
         printf(" LS %" PRId64 " LT %" PRId64 " LW %" PRId64 " LWNA %" PRId64 " LF %" PRId64 " LTF %" PRId64,
                m.ls, m.lt, m.lw, m.lwna, m.lf, m.ltf);
     printf("\n");
@@ -66,20 +66,20 @@ int main(int argc, char **argv)
         return EXIT_FAILURE;
     }
 
+    loadline_read_answer read = loadline_read(record, length);
     loadline_marks_answer m = loadline_marks(record, length);
     if (m.refusal != LOADLINE_ACCEPTED)
         refused(m.refusal, m.place, m.overlap);
     else
-        show(m);
+        show(m, read.ship.timber);
 
-    loadline_read_answer read = loadline_read(record, length);
     if (read.refusal != LOADLINE_ACCEPTED) {
         printf("no ship: ");
         refused(read.refusal, read.place, read.overlap);
         return EXIT_SUCCESS;    /* a refusal is an answer */
     }
     loadline_ship ship = read.ship;
-    printf("L %" PRIu64 " type %s houses %" PRIu64, ship.length, types[ship.kind], ship.n);
+    printf("L %" PRIu64 " type %s%s houses %" PRIu64, ship.length, types[ship.kind], ship.timber ? " timber" : "", ship.n);
     for (size_t i = 0; i < ship.n; i++) {
         loadline_house house = ship.houses[i];
         printf(" %" PRId64 "..%" PRId64, house.aft, house.fore);

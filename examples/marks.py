@@ -7,6 +7,8 @@ from pathlib import Path
 LONGEST = 123  # bytes of a record
 OVERLAP = 11  # the refusal that has one, in mm
 TYPES = ("A", "B", "B-60", "B-100", "B with portable covers")  # by their number in the record
+MARKS = ("s", "t", "w", "wna", "f", "tf")
+TIMBER = ("ls", "lt", "lw", "lwna", "lf", "ltf")
 
 
 class House(Structure):
@@ -43,16 +45,7 @@ class Answer(Structure):
 
 
 class MarksAnswer(Answer):
-    _fields_ = [
-        (name, i64) for name in ("s", "t", "w", "wna", "f", "tf", "ls", "lt", "lw", "lwna", "lf", "ltf")
-    ]
-
-    def __str__(self):
-        if self.refusal:
-            return super().__str__()
-        timber = ("ls", "lt", "lw", "lwna", "lf", "ltf") if self.lwna else ()  # if there are any
-        names = ("s", "t", "w", "wna", "f", "tf", *timber)
-        return " ".join(f"{name.upper()} {getattr(self, name)}" for name in names)
+    _fields_ = [(name, i64) for name in (*MARKS, *TIMBER)]
 
 
 class PoopAnswer(Answer):
@@ -80,15 +73,18 @@ for call, result, arguments in (
 
 
 def show(record):
-    print(library.loadline_marks(record, len(record)))
-
     read = library.loadline_read(record, len(record))
+    m = library.loadline_marks(record, len(record))
+    names = (*MARKS, *TIMBER) if read.ship.timber else MARKS  # zeros where there are no timber marks
+    print(m if m.refusal else " ".join(f"{name.upper()} {getattr(m, name)}" for name in names))
+
     if read.refusal:
         print("no ship:", read)
         return
     ship = read.ship
     houses = "".join(f" {house}" for house in ship.houses[: ship.n])
-    print(f"L {ship.length} type {TYPES[ship.kind]} houses {ship.n}{houses}")
+    timber = " timber" if ship.timber else ""
+    print(f"L {ship.length} type {TYPES[ship.kind]}{timber} houses {ship.n}{houses}")
 
     poop = library.loadline_shortest_poop(record, len(record), 1950, 1000)
     print("poop of 1950 mm for S 1000:", poop if poop.refusal else f"{poop.decimetres} dm")

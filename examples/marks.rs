@@ -62,25 +62,25 @@ impl std::fmt::Display for loadline::Refusal {
     }
 }
 
-/// The six marks, and the six timber marks if there are any.
-impl std::fmt::Display for loadline::Marks {
-    fn fmt(&self, f: &mut std::fmt::Formatter) -> std::fmt::Result {
-        write!(f, "S {} T {} W {} WNA {} F {} TF {}", self.s, self.t, self.w, self.wna, self.f, self.tf)?;
-        if self.lwna > 0 {
-            let [s, t, w, wna, fresh, tf] = [self.ls, self.lt, self.lw, self.lwna, self.lf, self.ltf];
-            write!(f, " LS {s} LT {t} LW {w} LWNA {wna} LF {fresh} LTF {tf}")?;
-        }
-        Ok(())
+/// The six marks, and the six timber marks if they are asked for: zeros where there are none.
+fn line(m: &loadline::Marks, timber: bool) -> String {
+    let mut line = format!("S {} T {} W {} WNA {} F {} TF {}", m.s, m.t, m.w, m.wna, m.f, m.tf);
+    if timber {
+        line += &format!(" LS {} LT {} LW {} LWNA {} LF {} LTF {}", m.ls, m.lt, m.lw, m.lwna, m.lf, m.ltf);
     }
+    line
 }
 
 fn show(record: &[u8]) -> Result<(), loadline::Refusal> {
+    let read = loadline::read(record);
+    let flag = read.as_ref().is_ok_and(|ship| ship.timber != 0);
     match loadline::marks(record) {
-        Ok(m) => println!("{m}"),
+        Ok(m) => println!("{}", line(&m, flag)),
         Err(r) => println!("{r}"),
     }
-    let ship = loadline::read(record)?;
-    print!("L {} type {} houses {}", ship.length, TYPES[ship.kind as usize], ship.n);
+    let ship = read?;
+    let timber = if flag { " timber" } else { "" };
+    print!("L {} type {}{timber} houses {}", ship.length, TYPES[ship.kind as usize], ship.n);
     for house in &ship.houses[..ship.n as usize] {
         print!(" {}..{}", house.aft, house.fore);
         if house.beam > 0 {

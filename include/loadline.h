@@ -101,7 +101,7 @@ enum loadline_refusal {
 };
 
 /* What a ship's `kind` may be: its type, as regulation 27 has it. All but A are type B ships, whose
- * marks are worked alike, but for the line that they begin from and the least freeboard. The version is that in which a ship
+ * ordinary marks are worked alike, but for the line that they begin from and the least freeboard. The version is that in which a ship
  * without the timber flag is written whose houses all have full breadth; if one of them has breadths, equal ones too, it is 3,
  * and with the flag 4. Timber marks have no least freeboard, and begin from the line of the type, for B-60 and B-100 from B's.
  *
@@ -135,7 +135,7 @@ typedef struct {
     uint64_t beam;          /* and the ship's, both at the middle of the house */
 } loadline_house;
 
-/* A ship. The numbers are those of refusal 7's fields. */
+/* A ship. The numbers are those of refusal 7's fields. Its flag is as a house's: 0 or 1, and for writing any number but 0 is yes. */
 typedef struct {
     uint64_t kind;          /* type, one of loadline_kind: 0 to 4 */
     uint64_t n;             /* houses, 0 to 8 */

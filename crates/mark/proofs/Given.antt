@@ -33,7 +33,7 @@ six-small p S h d f =
       by-cases (λ (z : ℕ). z ≤ 120050) (leb (p .length .0) 100000) _ _ (λ t. omega (arith, c)) (λ t. omega (arith, c)),
     )
 
--- W and WNA are above zero
+-- WNA is above zero
 pub six-above : (p : Particulars) (S : ℕ) → S < p .depth .0 → 1 ≤ sixMarks p S .wna
 unfolding sixMarks winter atlantic
 six-above p S h =

@@ -38,7 +38,7 @@ module _ (x : Ship) (o : Ordinary.Sheet) (m : Marks) (t : TimberMarks) (e : shee
   pub timber-is : t ≡ timberMarksOf x m
   unfolding sheetWith
   timber-is =
-      let a : (eqb (o .verdict .number) 0 && x .timber) ≡ true = sym (ap (λ (s : Sheet). s .asked) e) in
+      let a : (eqb (o .verdict .number) 0 && x .timber) ≡ true = sym (ap (λ (s : Sheet). s .given) e) in
       let b : o .marks ≡ m = sym (ap (λ (s : Sheet). s .ordinary .marks) e) in
       ap (λ (s : Sheet). s .timber) e ∙ pick-true _ _ _ a ∙ ap (timberMarksOf x) b
 
@@ -62,9 +62,8 @@ pub sound : (s : List ℕ) → AllPass (frameLines s) → AllPass (shipLines (sh
 unfolding shipIn
 sound s a b =
     let f = frame-passed s a in
-    record { type = type-most (headIn s .version) (f .type); few = f .few; good = good (shipIn s) (ap (λ (t : Paper). t .number) (first-passed (shipLines (shipIn s)) b)) }
+    record { type = type-most (headIn s .version) (f .type); timber = f .timber; few = f .few; good = good (shipIn s) (ap (λ (t : Paper). t .number) (first-passed (shipLines (shipIn s)) b)) }
 
--- for every byte string for which the marks call gives marks
 -- what marks that are given show: the ship is sound, its S is below D, and they are its six
 pub given-in : (s : List ℕ) (m : Marks) → Ordinary.sheet (Ordinarily.Given m) ≡ sheetIn s
     → let x = shipIn s in Sound x × (summerOf x < x .depth .0) × (m ≡ sixMarks (particularsOf x) (summerOf x))
@@ -81,6 +80,7 @@ given-close : (s : List ℕ) (m : Marks) → Ordinary.sheet (Ordinarily.Given m)
 unfolding sixMarks
 given-close s m e = let g = given-in s m e in (g .0, rw (g .2) (summer-bounded (shipIn s) (g .0)))
 
+-- for every byte string for which the marks call gives marks
 pub bounded-in : (s : List ℕ) (r : Answer) → sheet r ≡ answerIn s → Bounded r (shipIn s)
 unfolding answerIn sheetWith
 bounded-in s (Given m) e = given-close s m (ap (λ (t : Sheet). t .ordinary) e) .1

@@ -40,7 +40,7 @@ sheet-read s x e = call-read answer more s x e
 
 -- and the ship is one that the steps can take
 pub sound-read : (s : List ℕ) (x : Ship) → readingIn s ≡ record { verdict = accepted; ship = x } → Sound x
-sound-read s x e = let g = read-is-good s x e in record { type = g .0; few = g .1; good = g .2 }
+sound-read s x e = let g = read-is-good s x e in record { type = g .0; timber = g .1; few = g .2; good = g .3 }
 
 pub sheet-refused : (s : List ℕ) (r : Refusal) → readingIn s .verdict ≡ refusedAs r
     → sheetIn s ≡ record { verdict = refusedAs r; marks = noMarks }
@@ -83,7 +83,7 @@ pub no-flag : (s : List ℕ) (m : Marks) → Whole.sheet (Given m) ≡ answerIn 
 unfolding answerIn sheetWith
 no-flag s m e =
     let n : sheetIn s .verdict .number ≡ 0 = sym (ap (λ (a : Whole.Sheet). a .ordinary .verdict .number) e) in
-    sym (ap (λ (a : Whole.Sheet). a .asked) e ∙ ap (λ (b : Bool). b && shipIn s .timber) (eq-eqb (sheetIn s .verdict .number) 0 n))
+    sym (ap (λ (a : Whole.Sheet). a .given) e ∙ ap (λ (b : Bool). b && shipIn s .timber) (eq-eqb (sheetIn s .verdict .number) 0 n))
 
 -- beside a refusal, whichever it is, all six marks are zero, and all six timber marks
 pub zero-beside-refusal : (s : List ℕ) → ¬ (answerIn s .ordinary .verdict .number ≡ 0) → (answerIn s .ordinary .marks ≡ noMarks) × (answerIn s .timber ≡ noTimber)

@@ -21,7 +21,7 @@ use Rattle.steps.specs.Steps.{summerOf, particularsOf}
 use Rattle.steps.specs.Exact.{exactSummerOf}
 use Rattle.steps.specs.Timber.{hasTimber, exactTimberAdded, exactTimberTaken, timberMarksOf}
 
--- ---- the ordinary marks; the timber flag has no part in them
+-- ---- the ordinary marks; the timber flag has no part in them, but for 24
 -- of a ship that the reader accepts, or 12 or 13
 unfoldable pub sheetFor : Ship → Sheet
 sheetFor x = sheetAt (particularsOf x) (summerOf x)

@@ -1,6 +1,6 @@
--- What checks 1 to 6 show of accepted bytes, and what a reading then is.
+-- What checks 1 to 6 and 24 show of accepted bytes, and what a reading then is.
 use Prim.Native.Nat.{ℕ, _+_, _≤_}
-use mathlib.Core.Bool.{false, not, _||_}
+use mathlib.Core.Bool.{false, not}
 use mathlib.Core.List.{List, _++_}
 use mathlib.Core.Path.{_≡_, refl, sym, ap, subst, _∙_}
 use lib.ListN.{length}
@@ -103,9 +103,11 @@ module _ (s : List ℕ) (x : Ship) (e : readingIn s ≡ record { verdict = accep
       let u = first-passed (shipLines (shipIn s)) (passes-all .1) in
       ap (λ (r : Reading). r .ship) (sym (t ∙ ap (λ (p : Paper). readingOf p (shipIn s)) u) ∙ e)
 
-pub read-is-good : (s : List ℕ) (x : Ship) → readingIn s ≡ record { verdict = accepted; ship = x } → (x .kind ≤ lastType) × (x .n ≤ 8) × Good x
+pub read-is-good : (s : List ℕ) (x : Ship) → readingIn s ≡ record { verdict = accepted; ship = x }
+    → (x .kind ≤ lastType) × (timberForA (x .kind) (x .timber) ≡ false) × (x .n ≤ 8) × Good x
 unfolding shipIn
 read-is-good s x e =
     let f = frame-passed s (passes-all s x e .0) in
     let p = first-passed (shipLines (shipIn s)) (passes-all s x e .1) in
-    subst (λ (y : Ship). (y .kind ≤ lastType) × (y .n ≤ 8) × Good y) (ship-is s x e) (type-most (headIn s .version) (f .type), f .few, good (shipIn s) (ap (λ (v : Paper). v .number) p))
+    subst (λ (y : Ship). (y .kind ≤ lastType) × (timberForA (y .kind) (y .timber) ≡ false) × (y .n ≤ 8) × Good y) (ship-is s x e)
+    (type-most (headIn s .version) (f .type), f .timber, f .few, good (shipIn s) (ap (λ (v : Paper). v .number) p))

@@ -266,7 +266,7 @@ all-fit v (suc n) t zero h = read-fits v (take (houseSize v) t)
 all-fit v (suc n) t (suc k) h = all-fit v n (drop (houseSize v) t) k (omega arith)
 
 -- and so does the timber flag
-flag-held : (s : List ℕ) → bit (headIn s .timber) < 2 ^ timberBits (headIn s .version)
+pub flag-held : (s : List ℕ) → bit (headIn s .timber) < 2 ^ timberBits (headIn s .version)
 unfolding headIn
 flag-held s =
     let w = head-within s 3 in

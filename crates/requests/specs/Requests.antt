@@ -135,8 +135,8 @@ abbrev pub unrounded8 : ℕ
 unrounded8 = ceil (exactAddition (exactDeficiency (7 * lift) (7 * lift) 90001) 90001 0)
 
 -- ---- §9: the six timber marks of a record that is accepted; and so many mm below zero
-unfoldable pub timberRow : ℕ → Sheet → List ℤ → Row
-timberRow k a stated =
+unfoldable pub timberMarksRow : ℕ → Sheet → List ℤ → Row
+timberMarksRow k a stated =
     let t = a .timber in
     record {
       figure = k;
@@ -273,24 +273,26 @@ requests =
     ∷ one 8 (over8 2002) 8375
     ∷ one 8 flat8 375192
     ∷ one 8 unrounded8 375191
-    ∷ timberRow 9 (answerIn bare9) (pos 1102 ∷ pos 1000 ∷ pos 1239 ∷ pos 2163 ∷ pos 1000 ∷ pos 898 ∷ [])
-    ∷ timberRow 9 (answerIn (flagged9 0x42 0x30)) (pos 807 ∷ pos 699 ∷ pos 952 ∷ pos 1178 ∷ pos 699 ∷ pos 591 ∷ [])
+    ∷ timberMarksRow 9 (answerIn bare9) (pos 1102 ∷ pos 1000 ∷ pos 1239 ∷ pos 2163 ∷ pos 1000 ∷ pos 898 ∷ [])
+    ∷ timberMarksRow 9 (answerIn (flagged9 0x42 0x30)) (pos 807 ∷ pos 699 ∷ pos 952 ∷ pos 1178 ∷ pos 699 ∷ pos 591 ∷ [])
     ∷ marksRow 9 (sheetIn (flagged9 0x42 0x30)) (0 ∷ 0 ∷ 0 ∷ 1024 ∷ 921 ∷ 1128 ∷ 1178 ∷ 921 ∷ 818 ∷ [])
-    ∷ timberRow 9 (answerIn (flagged9 0x42 0x20)) (pos 0 ∷ pos 0 ∷ pos 0 ∷ pos 0 ∷ pos 0 ∷ pos 0 ∷ [])
-    ∷ timberRow 9 (answerIn (flagged9 0x48 0x30)) (pos 857 ∷ pos 750 ∷ pos 1000 ∷ pos 1227 ∷ pos 750 ∷ pos 643 ∷ [])
-    ∷ timberRow 9 (answerIn reduced9) (pos 1382 ∷ pos 1245 ∷ pos 1536 ∷ pos 1536 ∷ pos 1245 ∷ pos 1108 ∷ [])
-    ∷ timberRow 9 (answerIn low9) (less 154 ∷ less 244 ∷ less 33 ∷ pos 187 ∷ less 244 ∷ less 334 ∷ [])
+    ∷ timberMarksRow 9 (answerIn (flagged9 0x42 0x20)) (pos 0 ∷ pos 0 ∷ pos 0 ∷ pos 0 ∷ pos 0 ∷ pos 0 ∷ [])
+    ∷ timberMarksRow 9 (answerIn (flagged9 0x48 0x30)) (pos 857 ∷ pos 750 ∷ pos 1000 ∷ pos 1227 ∷ pos 750 ∷ pos 643 ∷ [])
+    ∷ timberMarksRow 9 (answerIn reduced9) (pos 1382 ∷ pos 1245 ∷ pos 1536 ∷ pos 1536 ∷ pos 1245 ∷ pos 1108 ∷ [])
+    ∷ timberMarksRow 9 (answerIn low9) (less 154 ∷ less 244 ∷ less 33 ∷ pos 187 ∷ less 244 ∷ less 334 ∷ [])
     ∷ one 9 (summerIn low9) 50
-    ∷ timberRow 9 (answerIn covers9) (less 80 ∷ less 169 ∷ pos 39 ∷ pos 285 ∷ less 169 ∷ less 258 ∷ [])
+    ∷ timberMarksRow 9 (answerIn covers9) (less 80 ∷ less 169 ∷ pos 39 ∷ pos 285 ∷ less 169 ∷ less 258 ∷ [])
     ∷ one 9 (summerIn covers9) 150
-    ∷ timberRow 9 (answerIn (depth9 0x40)) (pos 1715 ∷ pos 1715 ∷ pos 1578 ∷ pos 1578 ∷ pos 1715 ∷ pos 1715 ∷ [])
-    ∷ timberRow 9 (answerIn (depth9 0x30)) (pos 0 ∷ pos 0 ∷ pos 0 ∷ pos 0 ∷ pos 0 ∷ pos 0 ∷ [])
+    ∷ timberMarksRow 9 (answerIn (depth9 0x40)) (pos 1715 ∷ pos 1715 ∷ pos 1578 ∷ pos 1578 ∷ pos 1715 ∷ pos 1715 ∷ [])
+    ∷ timberMarksRow 9 (answerIn (depth9 0x30)) (pos 0 ∷ pos 0 ∷ pos 0 ∷ pos 0 ∷ pos 0 ∷ pos 0 ∷ [])
     ∷ one 9 (summerIn (depth9 0x30)) 1575
     ∷ refusalRow 9 (readingIn (flagged9 0x40 0x30) .verdict) (24 ∷ 0 ∷ 0 ∷ [])
     ∷ refusalRow 9 (readingIn (flagged9 0x41 0x30) .verdict) (24 ∷ 0 ∷ 0 ∷ [])
     ∷ refusalRow 9 (writingOf 0 (shipIn (flagged9 0x41 0x30))) (24 ∷ 0 ∷ 0 ∷ [])
     ∷ refusalRow 9 (readingIn (flagged9 0x4a 0x30) .verdict) (3 ∷ 0 ∷ 0 ∷ [])
     ∷ refusalRow 9 (readingIn (flagged9 0x32 0x30) .verdict) (6 ∷ 0 ∷ 0 ∷ [])
+    ∷ refusalRow 9 (readingIn (0x22 ∷ 0x30 ∷ particulars ++ forecastle) .verdict) (6 ∷ 0 ∷ 0 ∷ [])
+    ∷ refusalRow 9 (readingIn (0x14 ∷ 0x50 ∷ particulars ++ forecastle) .verdict) (6 ∷ 0 ∷ 0 ∷ [])
     ∷ refusalRow 9 (readingIn (flagged9 0x42 0x28) .verdict) (6 ∷ 0 ∷ 0 ∷ [])
     ∷ refusalRow 9 (readingIn (flagged9 0x52 0x30) .verdict) (2 ∷ 0 ∷ 0 ∷ [])
     ∷ row 9 (recordBytes (shipIn (flagged9 0x42 0x30))) (flagged9 0x42 0x30)

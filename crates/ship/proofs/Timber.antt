@@ -1,4 +1,4 @@
--- The type by which timber freeboards are worked (45(6)), and the timber flag, which no check from 7 on looks at.
+-- The type by which timber freeboards are worked (45(6)), and the timber flag.
 use Prim.Native.Nat.{ℕ, _≤_, _<_}
 use mathlib.Core.Bool.{Bool, true, false, true≢false, _||_}
 use mathlib.Core.Path.{_≡_, refl, sym}
@@ -9,7 +9,6 @@ use Rattle.whole.proofs.Pick.{pick-false, by-cases}
 use Rattle.ship.specs.declared.Ship.{Ship}
 use Rattle.ship.specs.Kinds.{kindB60, kindB100, kindCovers, isReduced, timberKind}
 use Rattle.ship.specs.Good.{Good}
-use Rattle.ship.specs.Checks.{shipLines}
 
 -- it is a type, and has portable covers only where the ship's own has them
 pub timber-kind : (kind : ℕ) → (kind ≤ kindCovers → timberKind kind ≤ kindCovers) × (timberKind kind ≡ kindCovers → kind ≡ kindCovers)
@@ -32,7 +31,7 @@ reduced-is-long x g e = go (eqb (x .kind) kindB60) (eqb (x .kind) kindB100) refl
     go false true p q t = g .reduced-long .1 (eqb-true (x .kind) kindB100 q)
     go false false p q t = absurd (true≢false (sym t))
 
--- ---- a ship that differs in the timber flag alone passes and fails the same checks
+-- ---- a ship that differs in the timber flag alone
 abbrev pub withFlag : Bool → Ship → Ship
 withFlag b x = record {
   kind = x .kind;
@@ -48,6 +47,3 @@ withFlag b x = record {
   immersion = x .immersion;
   houses = x .houses;
 }
-
-pub flag-checks : (b : Bool) (x : Ship) → shipLines (withFlag b x) ≡ shipLines x
-flag-checks b x = refl

@@ -34,6 +34,6 @@ bowOf x =
 unfoldable pub signedSummerOf : Ship → Signed
 signedSummerOf x = maxs (plain (whole (basis x .floor))) (maxs (correctedBy (basis x .exact) ordinaryRow x) (bowOf x) *s plain (frac 1 1000))
 
--- timber (45(1), (6)): the corrected value alone, from the line of type B and by 45's percentages; in um
+-- timber (45(1)): the corrected value alone, from the line of 45(6) and by 45's percentages; in um
 unfoldable pub signedTimberOf : Ship → Signed
 signedTimberOf x = correctedBy (timberBasis x .exact) timberRow x

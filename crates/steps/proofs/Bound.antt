@@ -13,7 +13,7 @@ use Rattle.whole.proofs.Signed.{Cost}
 use Rattle.units.specs.Datum.{sheerAt}
 use Rattle.percentages.specs.declared.Row.{Row}
 use Rattle.percentages.specs.declared.Row.the-variants.{Ordinary, Timber}
-use Rattle.percentages.specs.Table37.{ordinaryRow, timberRow, entries}
+use Rattle.percentages.specs.Table37.{ordinaryRow, entries}
 use Rattle.percentages.proofs.Rule37.{each-row}
 use Rattle.ship.specs.declared.Ship.{Ship}
 use Rattle.ship.specs.Vessel.{housesOf}
@@ -36,7 +36,7 @@ use Rattle.timber.specs.Exact.{HoldsSigned}
 use Rattle.timber.proofs.Bound.{timber-holds}
 use Rattle.steps.specs.Steps.{Sound, typeB, basis, coveredS, effectiveE, forecastleHouse, amidshipsRatio, coverReach, addedTo, takenFrom, bowOf, summerOf}
 use Rattle.steps.specs.Exact.{exactE, exactAddedTo, exactTakenFrom, exactBowOf, exactSummerOf}
-use Rattle.steps.specs.Timber.{timberBasis, timberSummerOf, exactTimberAdded, exactTimberTaken}
+use Rattle.steps.specs.Timber.{timberSummerOf, exactTimberAdded, exactTimberTaken}
 
 -- E is short by at most 10 um: 2 for the sums, and 1 for each of at most eight houses with breadths
 short : (x : Ship) → x .n ≤ 8 → Below (effectiveE x) (exactE x) (whole 10)

@@ -1,13 +1,14 @@
 -- 01, "Steps to the summer mark", with 02, put together for a ship. Each step is the definition of its own regulation's crate.
 use Prim.Native.Nat.{ℕ, _+_, _≤_}
-use mathlib.Core.Bool.{Bool}
+use mathlib.Core.Bool.{Bool, false}
+use mathlib.Core.Path.{_≡_}
 use mathlib.Core.List.{List}
 use Rattle.whole.specs.Frac.{Frac}
 use Rattle.units.specs.Datum.{sheerAt}
 use Rattle.percentages.specs.Table37.{ordinaryRow}
 use Rattle.ship.specs.declared.House.{House}
 use Rattle.ship.specs.declared.Ship.{Ship}
-use Rattle.ship.specs.Kinds.{kindCovers, isTypeB}
+use Rattle.ship.specs.Kinds.{kindCovers, isTypeB, timberForA}
 use Rattle.ship.specs.Vessel.{housesOf}
 use Rattle.ship.specs.Good.{Good}
 use Rattle.houses.specs.Length.{partOf, coveredLength}
@@ -29,6 +30,7 @@ use Rattle.basis.specs.Basis.{Basis, basisOf}
 -- a ship that the reader accepts
 pub record Sound (x : Ship) : Type 0 where
   pub type : x .kind ≤ kindCovers
+  pub timber : timberForA (x .kind) (x .timber) ≡ false
   pub few : x .n ≤ 8
   pub good : Good x
 

@@ -2,7 +2,7 @@
 use Prim.Native.Nat.{ℕ, _+_, _-_}
 use mathlib.Core.Bool.{Bool}
 use mathlib.Core.List.{List}
-use mathlib.Core.Path.{_≡_, refl, ap, ap₂, _∙_}
+use mathlib.Core.Path.{_≡_, refl, ap, ap₂}
 use native.Mathlib.Omega.{arith}
 use Rattle.whole.specs.Pick.{pick}
 use Rattle.units.specs.Datum.{lift, sheerAt}
@@ -22,7 +22,6 @@ use Rattle.sheer.specs.Sheer as Sheer
 use Rattle.bow.specs.Bow.{higher, lower, sheerTaken, forecastleTaken, bowFreeboard}
 use Rattle.mark.specs.Summer.{summerMark}
 use Rattle.timber.specs.Timber.{levelOf, signed}
-use Rattle.timber.proofs.Computed.{level-signed}
 use Rattle.effective.proofs.Unrounded.{ratio-exact, unrounded-exact}
 use Rattle.summed.proofs.Sums.{good-fair, effective-summed}
 use Rattle.deck.specs.Deck.{deckOf}
@@ -75,4 +74,4 @@ pub timber-parts : (x : Ship) → GoodHouses (x .length .0) (housesOf x)
 unfolding timberOn timberSummerOf
 timber-parts x g =
     let b = balance-parts (timberBasis x .line) timberRow x g in
-    ap₂ (λ (a t : ℕ). signed (levelOf a t)) (b .0) (b .1) ∙ level-signed (addedTo (timberBasis x .line) x) (takenFrom timberRow x)
+    ap₂ (λ (a t : ℕ). signed (levelOf a t)) (b .0) (b .1)

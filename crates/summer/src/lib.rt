@@ -98,7 +98,7 @@ pub fn summer_on(h: Hull, d: Deck) -> u64
     mark::summer(h.basis.floor, b.added, b.taken, bow)
 }
 
-// LS of a hull and a deck, from the line of its type: by the timber percentages, with no bow height and no floor.
+// LS of a hull and a deck, from a line: by the timber percentages, with no bow height and no floor.
 pub fn timber_on(line: Freeboard, h: Hull, d: Deck) -> Level
     requires { ⌜ (line .0 ≤ 6400000) × FairHull h × FairDeck (h .length .0) d ⌝ }
     ensures { λ r. ⌜ r ≡ timberOn (line .0) h d ⌝ }

@@ -11,12 +11,12 @@ use Rattle.whole.specs.Sign.{above, under}
 use Rattle.whole.proofs.Divide.{ceil-ge, ceil-lt}
 use Rattle.whole.proofs.Frac.{refl≤, trans≤, trans≤<, +-mono≤}
 use Rattle.whole.proofs.Integers.{minus-above, minus-under, in-order, from-order}
-use Rattle.timber.specs.Timber.{timberSummer}
+use Rattle.timber.specs.Timber.{levelOf, timberSummer}
 use Rattle.timber.specs.Exact.{HoldsSigned}
 
 -- LS mm are a - t um rounded up: a - t ≤ 1000 LS ≤ a - t + 999
 pub in-um : (a t : ℕ) → let n = timberSummer a t in (a + 1000 * under n ≤ t + 1000 * above n) × (t + 1000 * above n ≤ a + 1000 * under n + 999)
-unfolding timberSummer
+unfolding levelOf
 in-um a t =
     let p = ceilDiv (a - t) 1000 in
     let q = (t - a) / 1000 in
@@ -46,7 +46,7 @@ timber-holds {a} {t} {x} {y} {e} {f} h v w =
 pub timber-least : (a t k j : ℕ)
     → (timberSummer a t ≤ℤ (pos k -ℤ pos j) → a + 1000 * j ≤ t + 1000 * k)
     × (a + 1000 * j ≤ t + 1000 * k → timberSummer a t ≤ℤ (pos k -ℤ pos j))
-unfolding timberSummer
+unfolding levelOf
 timber-least a t k j =
     let p = ceilDiv (a - t) 1000 in
     let q = (t - a) / 1000 in

@@ -1,5 +1,5 @@
 -- The marks as code computes them, in two naturals, are the definitions'.
-use mathlib.Core.Path.{_≡_, refl, ap}
+use mathlib.Core.Path.{_≡_, ap}
 use mathlib.Core.Bool.{true, false, not}
 use Prim.Native.Nat.{ℕ, _+_, _-_, _≤_, _<_, min}
 use native.Mathlib.Omega.{arith}
@@ -7,11 +7,7 @@ use lib.IntN.{pos, _-ℤ_}
 use Rattle.whole.specs.Divide.{ceilDiv}
 use Rattle.whole.specs.Pick.{pick}
 use Rattle.whole.proofs.Integers.{minus-above, minus-under, parts-le, parts-lt, minus-more, minus-min}
-use Rattle.timber.specs.Timber.{levelOf, signed, timberSummer, timberWinter, timberDraught, timberGiven}
-
-pub level-signed : (a t : ℕ) → signed (levelOf a t) ≡ timberSummer a t
-unfolding levelOf timberSummer
-level-signed a t = refl
+use Rattle.timber.specs.Timber.{timberWinter, timberDraught, timberGiven}
 
 pub winter-reduced : (w p q d : ℕ) → timberWinter true w (pos p -ℤ pos q) d ≡ pos (min (p + ceilDiv d 36) (w + q)) -ℤ pos q
 unfolding timberWinter pick

@@ -4,15 +4,15 @@ use mathlib.Core.Bool.{true, false}
 use lib.IntN.{pos, negsuc}
 use Rattle.whole.specs.Divide.{ceilDiv}
 use Rattle.whole.specs.Pick.{pick}
-use Rattle.timber.specs.Timber.{timberSummer, timberDraught, timberWinter, timberFrom, timberGiven, noTimber, timberMarks}
+use Rattle.timber.specs.Timber.{levelOf, timberSummer, timberDraught, timberWinter, timberFrom, timberGiven, noTimber, timberMarks}
 
 -- 0.001 mm more added than taken: LS is 1. 153.4 mm more taken than added: LS is -153
 above-zero : timberSummer 1000001 1000000 ≡ pos 1
-unfolding timberSummer ceilDiv
+unfolding levelOf ceilDiv
 above-zero = refl
 
 below-zero : timberSummer 1000000 1153400 ≡ negsuc 152
-unfolding timberSummer ceilDiv
+unfolding levelOf ceilDiv
 below-zero = refl
 
 -- k2: D 6000, WNA 1178

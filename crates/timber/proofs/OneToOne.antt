@@ -1,4 +1,4 @@
--- The ordinary sheet, whether timber marks are asked for, and these name one answer: no two answers have the same sheet.
+-- The ordinary sheet, whether timber marks are given, and these name one answer: no two answers have the same sheet.
 use mathlib.Core.Path.{_≡_, refl, sym, ap, ap₂}
 use mathlib.Core.Bool.{Bool, true, false, true≢false}
 use native.Mathlib.Omega.{arith}
@@ -20,8 +20,8 @@ use Rattle.timber.specs.Answer.{Sheet, sheet, sheetWith}
 marks-of : {s t : Sheet} → s ≡ t → s .ordinary .marks ≡ t .ordinary .marks
 marks-of e = ap (λ (s : Sheet). s .ordinary .marks) e
 
-asked-of : {s t : Sheet} → s ≡ t → s .asked ≡ t .asked
-asked-of e = ap (λ (s : Sheet). s .asked) e
+asked-of : {s t : Sheet} → s ≡ t → s .given ≡ t .given
+asked-of e = ap (λ (s : Sheet). s .given) e
 
 -- no refusal has the number of marks that are given
 refuses : (r : Refusal) → numberOf r ≡ 0 → ⊥

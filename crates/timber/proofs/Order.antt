@@ -15,7 +15,7 @@ use Rattle.whole.proofs.Pick.{pick-true, pick-false, by-cases}
 use Rattle.mark.specs.Summer.{summerMark}
 use Rattle.mark.proofs.Bound.{mark-quotient}
 use Rattle.timber.specs.declared.TimberMarks.{TimberMarks}
-use Rattle.timber.specs.Timber.{timberSummer, timberDraught, timberWinter, timberFrom, timberGiven, noTimber, timberMarks}
+use Rattle.timber.specs.Timber.{levelOf, timberSummer, timberDraught, timberWinter, timberFrom, timberGiven, noTimber, timberMarks}
 use Rattle.timber.proofs.Computed.{below-depth}
 
 -- what holds of the marks of every draught, and of zeros, holds of the marks
@@ -32,7 +32,7 @@ tropical-first reduced W WNA D LS =
     either (λ (m : TimberMarks). m .lt ≤ℤ m .ls) reduced W WNA D LS (lower LS (timberDraught D LS / 48)) (≤ℤ-refl (pos 0))
 
 -- LF is LT, and so at most LS
-pub fresh-tropical : (reduced : Bool) (W WNA D : ℕ) (LS : ℤ) → let m = timberMarks reduced W WNA D LS in m .lf ≡ m .lt
+fresh-tropical : (reduced : Bool) (W WNA D : ℕ) (LS : ℤ) → let m = timberMarks reduced W WNA D LS in m .lf ≡ m .lt
 unfolding timberFrom noTimber
 fresh-tropical reduced W WNA D LS = either (λ (m : TimberMarks). m .lf ≡ m .lt) reduced W WNA D LS refl refl
 
@@ -48,29 +48,30 @@ fresh-lowest reduced W WNA D LS =
     let k = timberDraught D LS / 48 in
     either (λ (m : TimberMarks). m .ltf ≤ℤ m .lt) reduced W WNA D LS (lower (LS -ℤ pos k) k) (≤ℤ-refl (pos 0))
 
--- LS ≤ LW, but on a reduced ship whose LW 45(7) sets level with W
-above-or-level : (reduced : Bool) (W : ℕ) (LS : ℤ) (d : ℕ) → let n = timberWinter reduced W LS d in (LS ≤ℤ n) ⊎ ((reduced ≡ true) × (n ≡ pos W))
+-- LS ≤ LW, but on a reduced ship whose W is below LS, with which 45(7) sets LW level
+abbrev pub AboveOrLevel : Bool → ℕ → ℤ → ℤ → Type 0
+AboveOrLevel reduced W LS LW = (LS ≤ℤ LW) ⊎ ((reduced ≡ true) × (LW ≡ pos W) × (leZ LS (pos W) ≡ false))
+
+-- W itself is one or the other
+w-or-level : (W : ℕ) (LS : ℤ) → AboveOrLevel true W LS (pos W)
+w-or-level W LS = go (leZ LS (pos W)) refl
+  where
+    go : (b : Bool) → leZ LS (pos W) ≡ b → AboveOrLevel true W LS (pos W)
+    go true e = inl (record { le = subst T (sym e) tt })
+    go false e = inr (refl, refl, e)
+
+above-or-level : (reduced : Bool) (W : ℕ) (LS : ℤ) (d : ℕ) → AboveOrLevel reduced W LS (timberWinter reduced W LS d)
 unfolding timberWinter
 above-or-level false W LS d = inl (subst (λ (z : ℤ). LS ≤ℤ z) (sym (pick-false false _ _ refl)) (higher LS (ceilDiv d 36)))
 above-or-level true W LS d =
     let n = LS +ℤ pos (ceilDiv d 36) in
-    subst (λ (z : ℤ). (LS ≤ℤ z) ⊎ ((true ≡ true) × (z ≡ pos W))) (sym (pick-true true (pick (leZ n (pos W)) n (pos W)) n refl))
-    (by-cases (λ (z : ℤ). (LS ≤ℤ z) ⊎ ((true ≡ true) × (z ≡ pos W))) (leZ n (pos W)) n (pos W) (λ t. inl (higher LS (ceilDiv d 36))) (λ t. inr (refl, refl)))
+    subst (AboveOrLevel true W LS) (sym (pick-true true (pick (leZ n (pos W)) n (pos W)) n refl))
+    (by-cases (AboveOrLevel true W LS) (leZ n (pos W)) n (pos W) (λ t. inl (higher LS (ceilDiv d 36))) (λ t. w-or-level W LS))
 
-pub winter-or-level : (reduced : Bool) (W WNA D : ℕ) (LS : ℤ)
-    → let m = timberMarks reduced W WNA D LS in
-    (m .ls ≤ℤ m .lw) ⊎ ((reduced ≡ true) × (m .lw ≡ pos W))
+pub winter-or-level : (reduced : Bool) (W WNA D : ℕ) (LS : ℤ) → let m = timberMarks reduced W WNA D LS in AboveOrLevel reduced W (m .ls) (m .lw)
 unfolding timberFrom noTimber
 winter-or-level reduced W WNA D LS =
-    either (λ (m : TimberMarks). (m .ls ≤ℤ m .lw) ⊎ ((reduced ≡ true) × (m .lw ≡ pos W))) reduced W WNA D LS
-    (above-or-level reduced W LS (timberDraught D LS)) (inl (≤ℤ-refl (pos 0)))
-
-pub winter-last : (W WNA D : ℕ) (LS : ℤ) → let m = timberMarks false W WNA D LS in m .ls ≤ℤ m .lw
-winter-last W WNA D LS =
-    elim (winter-or-level false W WNA D LS) [
-      | inl h ↦ h
-      | inr h ↦ absurd (true≢false (sym (h .0)))
-    ]
+    either (λ (m : TimberMarks). AboveOrLevel reduced W (m .ls) (m .lw)) reduced W WNA D LS (above-or-level reduced W LS (timberDraught D LS)) (inl (≤ℤ-refl (pos 0)))
 
 -- ---- LS and S: where the timber percentages take no less, LS is not above S, whatever the floor and the bow
 no-higher : (floor a t u b : ℕ) → t ≤ u → ceilDiv (a - u) 1000 ≤ summerMark floor a t b
@@ -80,7 +81,7 @@ no-higher floor a t u b h =
     (ceil-most (a - u) 1000 (max floor (ceilDiv c 1000)) (omega arith) (omega (arith, ceil-ge c 1000 (omega arith))))
 
 pub timber-no-higher : (floor a t u b : ℕ) → t ≤ u → timberSummer a u ≤ℤ pos (summerMark floor a t b)
-unfolding timberSummer
+unfolding levelOf
 timber-no-higher floor a t u b h =
     let p = ceilDiv (a - u) 1000 in
     let q = (u - a) / 1000 in
@@ -90,7 +91,7 @@ timber-no-higher floor a t u b h =
 
 -- so that where S is below D, LS is too, and the timber marks are given
 pub timber-below : (floor a t u b D : ℕ) → t ≤ u → summerMark floor a t b < D → timberGiven D (timberSummer a u) ≡ true
-unfolding timberSummer
+unfolding levelOf
 timber-below floor a t u b D h k = below-depth D (ceilDiv (a - u) 1000) ((u - a) / 1000) (omega (arith, no-higher floor a t u b h))
 
 -- ---- the six are all zero where none is given, and only there: an LWNA is not 0, as no ship's WNA is

@@ -101,9 +101,10 @@ pub fn follow(reduced: bool, w: u64, wna: u64, depth: Span, s: Level) -> TimberM
 {
     let mm = depth.0;
     let up = s.up;
-    let lowest = mm + s.down;
-    if lowest <= up {
+    // D, counted as `up` is, from `down` below zero.
+    let keel = mm + s.down;
+    if keel <= up {
         return none();
     }
-    six_marks(reduced, w, wna, s, lowest - up)
+    six_marks(reduced, w, wna, s, keel - up)
 }

@@ -1,7 +1,7 @@
 use mathlib.Core.Path.{_≡_, ap, sym, subst, _∙_}
 use Prim.Native.Nat.{ℕ, _≤_}
 use borrow.Author.Needs.{needs}
-use Rattle.ship.specs.Kinds.{kindCovers, timberKind}
+use Rattle.ship.specs.Kinds.{kindCovers}
 use Rattle.ship.proofs.Timber.{timber-kind}
 use Rattle.basis.specs.Basis.{basisOf}
 use Rattle.hull.proofs.timber_line.Statement.{statement}

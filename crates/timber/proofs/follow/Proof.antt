@@ -1,7 +1,7 @@
 use native.Mathlib.Omega.{arith}
 use borrow.Author.Needs.{needs}
 use Rattle.whole.specs.Pick.{pick}
-use Rattle.timber.specs.Timber.{noTimber, timberMarks}
+use Rattle.timber.specs.Timber.{timberMarks}
 use Rattle.timber.proofs.Computed.{at-depth, below-depth, draught-is}
 use Rattle.timber.proofs.follow.Statement.{statement}
 use Rattle.timber.proofs.follow.Tie as tie

@@ -194,7 +194,7 @@ impl Input {
         sides::damage(random, &mut self.record, &mut self.record_length);
     }
 
-    /// A ship with the timber flag, or one of type A, most often in version 4; bytes of another version at
+    /// A ship with the timber flag, one in four of type A, most often in version 4; bytes of another version at
     /// times.
     fn put_timber(&mut self, random: &mut Random, n: usize) {
         self.kind = Kind::Timber;

@@ -76,7 +76,7 @@ pub fn damage(random: &mut Random, record: &mut [u8], length: &mut usize) {
     let n = (*length - HEADER_BYTES) / version.house_bytes();
     let place = HEADER_BYTES + version.house_bytes() * random.between(0, 7) as usize;
     match random.between(1, 14) {
-        // As long as the houses of another version: 27+12n in version 1 or 2, 27+8n in version 3.
+        // As long as the houses of another version: 27+12n in version 1 or 2, 27+8n in version 3 or 4.
         1 => bits::put_over(record, 0, 4, random.between(2, 5) as u64),
         2 => {
             bits::put_over(record, 0, 4, 1);

@@ -722,15 +722,17 @@ impl Working<'_> {
             true => (reduced - deducted).max(0),
             false => reduced - deducted,
         };
-        if self.in_timber(Slip::TimberNoSheer) {
-            return freeboard;
+        freeboard + self.by_sheer(covered, effective)
+    }
+
+    /// 38, by the covered length in mm, or the effective one in um.
+    fn by_sheer(&self, covered: i128, effective: i128) -> i128 {
+        match self.slip {
+            _ if self.in_timber(Slip::TimberNoSheer) => 0,
+            Some(Slip::FactorPlain) => self.sheer(0),
+            Some(Slip::FactorEffective) => self.sheer(effective),
+            _ => self.sheer(1000 * covered),
         }
-        freeboard
-            + self.sheer(match self.slip {
-                Some(Slip::FactorPlain) => 0,
-                Some(Slip::FactorEffective) => effective,
-                _ => 1000 * covered,
-            })
     }
 
     /// 27 and 28: the line of a type, and what a slip adds to the freeboard after 30.

@@ -149,6 +149,29 @@ fn varied(raw: RawShip) -> impl Iterator<Item = RawShip> {
 
 pub fn cases() -> Cases {
     let mut all = Cases::default();
+    steps(&mut all);
+    all.group("damaged", damaged::damaged);
+    all.group("random", found::every_count);
+    // Each slip's ships are drawn after the cases that were there before it, so that these stay.
+    let earlier = |slip| !found::in_reduction(slip) && !found::by_hand(slip);
+    all.group("found", |all| found::for_each_slip(all, earlier));
+    low::groups(&mut all);
+    all.group("low-found", |all| found::for_each_slip(all, found::in_reduction));
+    all.group("sheer-mean", sheer::mean);
+    all.group("sheer-signs", sheer::signs);
+    all.group("lists", damaged::lists);
+    types::groups(&mut all);
+    all.group("heads", damaged::heads);
+    sides::groups(&mut all);
+    all.group("sides", damaged::sides);
+    timber::groups(&mut all);
+    all.group("timber", damaged::timber);
+    all.enough();
+    all
+}
+
+/// 01's steps, one after the other.
+fn steps(all: &mut Cases) {
     all.group("figures", last::figures);
     all.group("lengths", borders::lengths);
     all.group("rows", borders::rows);
@@ -170,24 +193,6 @@ pub fn cases() -> Cases {
     all.group("fresh", last::fresh);
     all.group("refusal-12", last::summer_at_deck);
     all.group("refusal-13", last::allowance_above_draught);
-    all.group("damaged", damaged::damaged);
-    all.group("random", found::every_count);
-    // Each slip's ships are drawn after the cases that were there before it, so that these stay.
-    let earlier = |slip| !found::in_reduction(slip) && !found::by_hand(slip);
-    all.group("found", |all| found::for_each_slip(all, earlier));
-    low::groups(&mut all);
-    all.group("low-found", |all| found::for_each_slip(all, found::in_reduction));
-    all.group("sheer-mean", sheer::mean);
-    all.group("sheer-signs", sheer::signs);
-    all.group("lists", damaged::lists);
-    types::groups(&mut all);
-    all.group("heads", damaged::heads);
-    sides::groups(&mut all);
-    all.group("sides", damaged::sides);
-    timber::groups(&mut all);
-    all.group("timber", damaged::timber);
-    all.enough();
-    all
 }
 
 /// The house with its length cut by some mm at its after end.

@@ -101,9 +101,10 @@ enum loadline_refusal {
 };
 
 /* What a ship's `kind` may be: its type, as regulation 27 has it. All but A are type B ships, whose
- * ordinary marks are worked alike, but for the line that they begin from and the least freeboard. The version is that in which a ship
- * without the timber flag is written whose houses all have full breadth; if one of them has breadths, equal ones too, it is 3,
- * and with the flag 4. Timber marks have no least freeboard, and begin from the line of the type, for B-60 and B-100 from B's.
+ * ordinary marks are worked alike, but for the line that they begin from and the least freeboard. The version is that in
+ * which a ship without the timber flag is written whose houses all have full breadth; if one of them has breadths, equal ones
+ * too, it is 3, and with the flag 4. Timber marks have no least freeboard, and begin from the line of the type, for B-60 and
+ * B-100 from B's.
  *
  *   Type             The line                                                     Least S and T   Version
  *   A                table 28.1                                                   50 mm           1
@@ -119,8 +120,8 @@ enum loadline_kind {
     LOADLINE_TYPE_B_PORTABLE_COVERS = 4
 };
 
-/* A record has 27 + 8n bytes for n houses, and 27 + 12n in versions 3 and 4. To take one from a file, read up to LOADLINE_MOST_BYTES + 1
- * bytes: the one more tells a longer file, which is refused, from a record. */
+/* A record has 27 + 8n bytes for n houses, and 27 + 12n in versions 3 and 4. To take one from a file, read up to
+ * LOADLINE_MOST_BYTES + 1 bytes: the one more tells a longer file, which is refused, from a record. */
 enum { LOADLINE_LEAST_BYTES = 27, LOADLINE_MOST_BYTES = 123, LOADLINE_MOST_HOUSES = 8 };
 
 /* A house on the freeboard deck. Its ends are stations, in mm forward of the after perpendicular; abaft it they are
@@ -135,7 +136,8 @@ typedef struct {
     uint64_t beam;          /* and the ship's, both at the middle of the house */
 } loadline_house;
 
-/* A ship. The numbers are those of refusal 7's fields. Its flag is as a house's: 0 or 1, and for writing any number but 0 is yes. */
+/* A ship. The numbers are those of refusal 7's fields. Its flag is as a house's: it reads as 0 or 1, and for writing any
+ * number but 0 is yes. */
 typedef struct {
     uint64_t kind;          /* type, one of loadline_kind: 0 to 4 */
     uint64_t n;             /* houses, 0 to 8 */
@@ -203,8 +205,8 @@ loadline_read_answer loadline_read(const uint8_t *record, size_t length);
 
 /* Writes the ship's record at the buffer's start, in the lowest version that holds the ship. Reading it gives the ship back.
  * Places beyond n are ignored. An accepted write changes the first `bytes` bytes only, a refused one none. A number too big
- * for the record is refused as any other outside its range. Refuses 3, 24, 4, 7 to 11, 18, 22, 23 and 17; 17 comes last, so that a
- * short buffer hides no fault of the ship. */
+ * for the record is refused as any other outside its range. Refuses 3, 24, 4, 7 to 11, 18, 22, 23 and 17; 17 comes last, so
+ * that a short buffer hides no fault of the ship. */
 loadline_write_answer loadline_write(uint8_t *buffer, size_t length, loadline_ship ship);
 
 #ifdef __cplusplus

@@ -1,4 +1,4 @@
-/* Prints the marks of a ship record, by the edition of 2003 or of 1966, then what the other three calls say of it.
+/* Prints the marks of a ship record, then what the other three calls say of it.
  * Build: cc -Iinclude examples/marks.c target/lib/libloadline.a -o marks */
 #include <errno.h>
 #include <inttypes.h>
@@ -54,12 +54,10 @@ static void show(loadline_marks_answer m, bool timber)
 
 int main(int argc, char **argv)
 {
-    bool older = argc == 3 && strcmp(argv[2], "1966") == 0;
-    if (argc != 2 && !older) {
-        fprintf(stderr, "usage: marks RECORD [1966]\n");
+    if (argc != 2) {
+        fprintf(stderr, "usage: marks RECORD\n");
         return EXIT_FAILURE;
     }
-    uint64_t edition = older ? LOADLINE_EDITION_1966 : LOADLINE_EDITION_2003;
     /* One byte more than a record can have: a longer file is refused, not cut to a record. */
     uint8_t record[LOADLINE_MOST_BYTES + 1];
     size_t length;
@@ -69,7 +67,7 @@ int main(int argc, char **argv)
     }
 
     loadline_read_answer read = loadline_read(record, length);
-    loadline_marks_answer m = loadline_marks(record, length, edition);
+    loadline_marks_answer m = loadline_marks(record, length);
     if (m.refusal != LOADLINE_ACCEPTED)
         refused(m.refusal, m.place, m.overlap);
     else
@@ -91,7 +89,7 @@ int main(int argc, char **argv)
     printf("\n");
 
     printf("poop of 1950 mm for S 1000: ");
-    loadline_poop_answer poop = loadline_shortest_poop(record, length, 1950, 1000, edition);
+    loadline_poop_answer poop = loadline_shortest_poop(record, length, 1950, 1000);
     if (poop.refusal != LOADLINE_ACCEPTED)
         refused(poop.refusal, poop.place, poop.overlap);
     else

@@ -1,4 +1,4 @@
-"""Prints the marks of a ship record, by the edition of 2003 or of 1966, then what the other three calls say of it."""
+"""Prints the marks of a ship record, then what the other three calls say of it."""
 import sys
 from ctypes import CDLL, POINTER, Structure, c_char, c_char_p, c_size_t, create_string_buffer
 from ctypes import c_int64 as i64, c_uint64 as u64
@@ -6,7 +6,6 @@ from pathlib import Path
 
 LONGEST = 123  # bytes of a record
 OVERLAP = 11  # the refusal that has one, in mm
-EDITIONS = {(): 0, ("1966",): 1}  # by the arguments behind the record: 0 is the edition of 2003
 TYPES = ("A", "B", "B-60", "B-100", "B with portable covers")  # by their number in the record
 MARKS = ("s", "t", "w", "wna", "f", "tf")
 TIMBER = ("ls", "lt", "lw", "lwna", "lf", "ltf")
@@ -62,20 +61,20 @@ class WriteAnswer(Answer):
 
 
 # The number is the header's: a library with other structs, calls or kinds has another.
-library = CDLL(str(Path(__file__).resolve().parent.parent / "target/lib/libloadline.so.6"))
+library = CDLL(str(Path(__file__).resolve().parent.parent / "target/lib/libloadline.so.5"))
 # ctypes takes what is not declared for a C int, so each call is declared.
 for call, result, arguments in (
-    (library.loadline_marks, MarksAnswer, [c_char_p, c_size_t, u64]),
-    (library.loadline_shortest_poop, PoopAnswer, [c_char_p, c_size_t, u64, u64, u64]),
+    (library.loadline_marks, MarksAnswer, [c_char_p, c_size_t]),
+    (library.loadline_shortest_poop, PoopAnswer, [c_char_p, c_size_t, u64, u64]),
     (library.loadline_read, ReadAnswer, [c_char_p, c_size_t]),
     (library.loadline_write, WriteAnswer, [POINTER(c_char), c_size_t, Ship]),
 ):
     call.restype, call.argtypes = result, arguments
 
 
-def show(record, edition):
+def show(record):
     read = library.loadline_read(record, len(record))
-    m = library.loadline_marks(record, len(record), edition)
+    m = library.loadline_marks(record, len(record))
     names = (*MARKS, *TIMBER) if read.ship.timber else MARKS  # zeros where there are no timber marks
     print(m if m.refusal else " ".join(f"{name.upper()} {getattr(m, name)}" for name in names))
 
@@ -87,7 +86,7 @@ def show(record, edition):
     timber = " timber" if ship.timber else ""
     print(f"L {ship.length} type {TYPES[ship.kind]}{timber} houses {ship.n}{houses}")
 
-    poop = library.loadline_shortest_poop(record, len(record), 1950, 1000, edition)
+    poop = library.loadline_shortest_poop(record, len(record), 1950, 1000)
     print("poop of 1950 mm for S 1000:", poop if poop.refusal else f"{poop.decimetres} dm")
 
     copy = create_string_buffer(LONGEST)
@@ -97,11 +96,11 @@ def show(record, edition):
 
 
 if __name__ == "__main__":
-    if tuple(sys.argv[2:]) not in EDITIONS or len(sys.argv) < 2:
-        sys.exit("usage: marks.py RECORD [1966]")
+    if len(sys.argv) != 2:
+        sys.exit("usage: marks.py RECORD")
     try:
         with open(sys.argv[1], "rb") as file:
             data = file.read(LONGEST + 1)  # one more: a longer file is refused, not cut to a record
     except OSError as why:
         sys.exit(f"marks: {sys.argv[1]}: {why.strerror}")
-    show(data, EDITIONS[tuple(sys.argv[2:])])
+    show(data)

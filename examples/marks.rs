@@ -1,4 +1,4 @@
-//! Prints the marks of a ship record, by the edition of 2003 or of 1966, then what the other three calls say of it.
+//! Prints the marks of a ship record, then what the other three calls say of it.
 //! Build: rustc --edition 2021 -L target/lib examples/marks.rs
 use std::{env, fs::File, io::Read, process::ExitCode};
 
@@ -6,9 +6,6 @@ use std::{env, fs::File, io::Read, process::ExitCode};
 #[rustfmt::skip] // a struct of C stays on few lines
 #[allow(dead_code)] // this program does not look at every field
 mod loadline {
-    /// The edition of the regulations; in C 0 is that of 2003, and any other number that of 1966.
-    #[derive(Clone, Copy)]
-    pub enum Edition { Of2003 = 0, Of1966 = 1 }
     #[repr(C)] #[derive(Clone, Copy)]
     pub struct House { pub enclosed: u64, pub quarterdeck: u64, pub aft: i64, pub fore: i64, pub height: u64, pub breadth: u64, pub beam: u64 }
     #[repr(C)] #[derive(Clone, Copy)]
@@ -31,20 +28,20 @@ mod loadline {
 
     #[link(name = "loadline", kind = "static")]
     extern "C" {
-        fn loadline_marks(record: *const u8, length: usize, edition: u64) -> Answer<Marks>;
-        fn loadline_shortest_poop(record: *const u8, length: usize, height: u64, wish: u64, edition: u64) -> Answer<u64>;
+        fn loadline_marks(record: *const u8, length: usize) -> Answer<Marks>;
+        fn loadline_shortest_poop(record: *const u8, length: usize, height: u64, wish: u64) -> Answer<u64>;
         fn loadline_read(record: *const u8, length: usize) -> Answer<Ship>;
         fn loadline_write(buffer: *mut u8, length: usize, ship: Ship) -> Answer<u64>;
     }
 
     // SAFETY, of each: pointer and length are those of a slice lent for the call; the calls keep neither, and every byte
     // and number is permissible.
-    pub fn marks(record: &[u8], edition: Edition) -> Result<Marks, Refusal> {
-        unsafe { loadline_marks(record.as_ptr(), record.len(), edition as u64) }.result()
+    pub fn marks(record: &[u8]) -> Result<Marks, Refusal> {
+        unsafe { loadline_marks(record.as_ptr(), record.len()) }.result()
     }
     /// The shortest poop, in decimetres, of this height for a summer mark of at most `wish`, both in millimetres.
-    pub fn shortest_poop(record: &[u8], height: u64, wish: u64, edition: Edition) -> Result<u64, Refusal> {
-        unsafe { loadline_shortest_poop(record.as_ptr(), record.len(), height, wish, edition as u64) }.result()
+    pub fn shortest_poop(record: &[u8], height: u64, wish: u64) -> Result<u64, Refusal> {
+        unsafe { loadline_shortest_poop(record.as_ptr(), record.len(), height, wish) }.result()
     }
     pub fn read(record: &[u8]) -> Result<Ship, Refusal> {
         unsafe { loadline_read(record.as_ptr(), record.len()) }.result()
@@ -74,10 +71,10 @@ fn line(m: &loadline::Marks, timber: bool) -> String {
     line
 }
 
-fn show(record: &[u8], edition: loadline::Edition) -> Result<(), loadline::Refusal> {
+fn show(record: &[u8]) -> Result<(), loadline::Refusal> {
     let read = loadline::read(record);
     let flag = read.as_ref().is_ok_and(|ship| ship.timber != 0);
-    match loadline::marks(record, edition) {
+    match loadline::marks(record) {
         Ok(m) => println!("{}", line(&m, flag)),
         Err(r) => println!("{r}"),
     }
@@ -91,7 +88,7 @@ fn show(record: &[u8], edition: loadline::Edition) -> Result<(), loadline::Refus
         }
     }
     print!("\npoop of 1950 mm for S 1000: ");
-    match loadline::shortest_poop(record, 1950, 1000, edition) {
+    match loadline::shortest_poop(record, 1950, 1000) {
         Ok(decimetres) => println!("{decimetres} dm"),
         Err(r) => println!("{r}"),
     }
@@ -110,22 +107,17 @@ const LONGEST: usize = 123;
 const TYPES: [&str; 5] = ["A", "B", "B-60", "B-100", "B with portable covers"];
 
 fn main() -> ExitCode {
-    let arguments: Vec<_> = env::args_os().skip(1).collect();
-    let (path, edition) = match &arguments[..] {
-        [path] => (path, loadline::Edition::Of2003),
-        [path, year] if year == "1966" => (path, loadline::Edition::Of1966),
-        _ => {
-            eprintln!("usage: marks RECORD [1966]");
-            return ExitCode::FAILURE;
-        }
+    let Some(path) = env::args_os().nth(1) else {
+        eprintln!("usage: marks RECORD");
+        return ExitCode::FAILURE;
     };
     // One byte more than a record can have: a longer file is refused, not cut to a record.
     let mut record = Vec::new();
-    if let Err(why) = File::open(path).and_then(|file| file.take(LONGEST as u64 + 1).read_to_end(&mut record)) {
+    if let Err(why) = File::open(&path).and_then(|file| file.take(LONGEST as u64 + 1).read_to_end(&mut record)) {
         eprintln!("marks: {}: {why}", path.to_string_lossy());
         return ExitCode::FAILURE;
     }
-    if let Err(r) = show(&record, edition) {
+    if let Err(r) = show(&record) {
         println!("no ship: {r}"); // a refusal is an answer, no failure
     }
     ExitCode::SUCCESS

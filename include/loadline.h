@@ -2,8 +2,8 @@
  * loadline.h: load-line marks that are proved.
  *
  * From a ship record of at most 123 bytes, of version 1 to 4: the six marks of the load-line Convention's Annex I with the
- * 2003 amendments, or as it was before them for keels laid before 2005, and the six timber marks where they are asked for, or
- * one numbered refusal; the shortest poop for a wished summer mark; a reader and a writer of the record.
+ * 2003 amendments, and the six timber marks where they are asked for, or one numbered refusal; the shortest poop for a wished
+ * summer mark; a reader and a writer of the record.
  *
  * For x86-64 Linux. Link libloadline.a, or libloadline.so; ./library makes both. They need memcpy and nothing else.
  * No call allocates, keeps state, prints or fails in any way but a numbered refusal. Any number of threads may call at
@@ -17,8 +17,6 @@
  *   - the machine's stack: no contract says how much of it a call needs;
  *   - 57 of the 684 rows of tables 28.1 and 28.2: they have not been held against paper, and for twelve of them the source
  *     does not show the number (docs/TABLES.md lists all);
- *   - every figure in which the 1966 edition differs: no printed copy was at hand, and they must be held against paper before
- *     a ship is marked by them (docs/TABLES.md, docs/DECISIONS.md);
  *   - that the definitions say what the Convention means (docs/DECISIONS.md has the readings). One is known to give less
  *     freeboard than its text: excess sheer counts in full where the house amidships is low, and 38(16) would reduce it.
  * A proved archive is known by what ./library prints beside it: the kit that proved it (rt version), the commit and the
@@ -69,8 +67,8 @@
 /* Another number with every change of a struct, a call, or what a number of an answer may be. The shared library carries it
  * in its own name, libloadline.so.N, so that no program that was linked to one loads it for another.
  * 2: every answer has an overlap. 3: kinds 2 to 4, refusal 22. 4: a house has breadths, refusal 23. 5: a ship has a timber
- * flag and the marks six timber marks, refusal 24. 6: marks and question take an edition. */
-#define LOADLINE_HEADER 6
+ * flag and the marks six timber marks, refusal 24. */
+#define LOADLINE_HEADER 5
 
 #ifdef __cplusplus
 extern "C" {
@@ -101,13 +99,6 @@ enum loadline_refusal {
     LOADLINE_BREADTHS = 23,
     LOADLINE_TIMBER_FOR_A = 24
 };
-
-/* The edition of the regulations that the marks and the question are worked by: 0 is that of 2003, and every other number,
- * the year 2003 too, that of 1966 with the Protocol of 1988, for keels laid before 2005. It is no part of a record. They
- * differ in the percentages of the houses' deduction and what a short forecastle does to it (37), in the bow height (39(1)),
- * and in Cb, which above 1.0 counts as 1.0 in 2003 only. All else is the same in both, and so is every refusal but 12, 13
- * and 16, which depend on the marks. */
-enum loadline_edition { LOADLINE_EDITION_2003 = 0, LOADLINE_EDITION_1966 = 1 };
 
 /* What a ship's `kind` may be: its type, as regulation 27 has it. All but A are type B ships, whose
  * ordinary marks are worked alike, but for the line that they begin from and the least freeboard. The version is that in
@@ -193,19 +184,18 @@ typedef struct {
 
 /* In all calls the pointer is to `length` bytes; with length 0 it may be NULL. A record is never changed. */
 
-/* The six marks of a record by an edition, and its six timber marks if it has the flag. S is never below that edition's value
- * worked without rounding, and less than 1.1 mm above it; and so is LS, where it is given. LT is at most LS, and LS at most
- * LW, but where a B-60 or B-100 ship's LW is level with its W. Of types B and B with portable covers LS is at most S. The flag
- * changes no ordinary mark. Refuses 1 to 13, 18 and 22 to 24. */
-loadline_marks_answer loadline_marks(const uint8_t *record, size_t length, uint64_t edition);
+/* The six marks of a record, and its six timber marks if it has the flag. S is never below the value worked without
+ * rounding, and less than 1.1 mm above it; and so is LS, where it is given. LT is at most LS, and LS at most LW, but where a
+ * B-60 or B-100 ship's LW is level with its W. Of types B and B with portable covers LS is at most S. The flag changes no
+ * ordinary mark. Refuses 1 to 13, 18 and 22 to 24. */
+loadline_marks_answer loadline_marks(const uint8_t *record, size_t length);
 
-/* The shortest poop for which the record's ship would have marks by the edition with S at most `wish` mm: an enclosed house
- * of `height` mm from the after perpendicular, set before the others, in whole decimetres up to L. Every shorter one has been
- * ruled out. It asks by the ship's own type: with portable covers S is never below 150 mm, so that a wish of 50 to 149 has no
- * length (16). The poop has full breadth. The wish is for S, with the timber flag too.
+/* The shortest poop for which the record's ship would have marks with S at most `wish` mm: an enclosed house of `height` mm
+ * from the after perpendicular, set before the others, in whole decimetres up to L. Every shorter one has been ruled out.
+ * It asks by the ship's own type: with portable covers S is never below 150 mm, so that a wish of 50 to 149 has no length (16).
+ * The poop has full breadth. The wish is for S, with the timber flag too.
  * Refuses 1 to 11, 18 and 22 to 24, then 14 to 16. The record's own marks need not exist: 12 and 13 are no refusals here. */
-loadline_poop_answer loadline_shortest_poop(const uint8_t *record, size_t length, uint64_t height, uint64_t wish,
-                                            uint64_t edition);
+loadline_poop_answer loadline_shortest_poop(const uint8_t *record, size_t length, uint64_t height, uint64_t wish);
 
 /* The ship of a record of any version. Writing it gives the same bytes back where the record is in the lowest version that
  * holds the ship: 4 with the timber flag, else 3 for a ship of whose houses one has breadths, else 1 for types A and B and 2

@@ -16,7 +16,6 @@ typedef struct {
 typedef struct {
     uint64_t record_length;
     uint8_t record[ROOM];
-    uint64_t edition;             /* for the marks and for the question */
     uint64_t asked, height, wish; /* a question if asked is not 0 */
     uint64_t buffer_length;
     memory buffer;
@@ -34,7 +33,7 @@ typedef struct {
     uint8_t record[ROOM]; /* as the calls left it */
 } answer;
 
-_Static_assert(sizeof(request) == 976 && sizeof(answer) == 1360, "no padding");
+_Static_assert(sizeof(request) == 968 && sizeof(answer) == 1360, "no padding");
 
 static request requests[BATCH];
 static answer answers[BATCH];
@@ -49,7 +48,7 @@ static void work(request *q, answer *a)
 {
     const uint8_t *record = lent(q->record, q->record_length);
     memset(a, 0, sizeof *a);
-    a->marks = loadline_marks(record, q->record_length, q->edition);
+    a->marks = loadline_marks(record, q->record_length);
     a->read = loadline_read(record, q->record_length);
     a->back_buffer = q->buffer;
     if (a->read.refusal == 0)
@@ -57,7 +56,7 @@ static void work(request *q, answer *a)
     a->buffer = q->buffer;
     a->write = loadline_write(lent(a->buffer.lent, q->buffer_length), q->buffer_length, q->ship);
     if (q->asked != 0)
-        a->poop = loadline_shortest_poop(record, q->record_length, q->height, q->wish, q->edition);
+        a->poop = loadline_shortest_poop(record, q->record_length, q->height, q->wish);
     memcpy(a->record, q->record, ROOM);
 }
 

@@ -2,12 +2,9 @@
 //! freeboard likewise, which has no floor.
 //!
 //! Written with the regulations' own units, metres for lengths and mm for freeboards, in
-//! fractions, and apart from the rounded working. Each edition has its own.
-
-mod older;
+//! fractions, and apart from the rounded working.
 
 use crate::big::{over, whole, Fraction};
-use crate::edition::Edition;
 use crate::marks;
 use crate::record::{House, Kind, Ship};
 use crate::{table27, table28};
@@ -57,12 +54,11 @@ const SHARES: [i64; 11] = [0, 70, 140, 210, 310, 410, 520, 630, 753, 877, 1000];
 const TIMBER_SHARES: [i64; 11] = [20, 31, 42, 53, 64, 70, 76, 82, 88, 94, 100];
 
 /// The exact summer freeboard and its two sources.
-pub fn exact(ship: &Ship, edition: Edition) -> Exact {
+pub fn exact(ship: &Ship) -> Exact {
     let l = over(ship.length, 1000);
     let e: Fraction = enclosed(ship).map(|house| effective_length(house, &l)).sum();
-    let share = share(ship, &l, &e, edition);
-    let corrected = corrected(ship, ship.kind, share, &e, edition);
-    let bow = bow_freeboard(ship, &l, edition);
+    let corrected = corrected(ship, ship.kind, SHARES.map(|mille| over(mille, 1000)), &e);
+    let bow = bow_freeboard(ship, &l);
     // 40
     let least = if ship.kind == Kind::Covers { whole(150) } else { whole(50) };
     let summer = corrected.clone().max(bow.clone()).max(least);
@@ -70,21 +66,21 @@ pub fn exact(ship: &Ship, edition: Edition) -> Exact {
 }
 
 /// 45: the exact summer timber freeboard of a type B ship, mm, be it negative or beyond D.
-pub fn timber(ship: &Ship, edition: Edition) -> Fraction {
+pub fn timber(ship: &Ship) -> Fraction {
     let l = over(ship.length, 1000);
     let e: Fraction = enclosed(ship).map(|house| effective_length(house, &l)).sum();
     let reduced = matches!(ship.kind, Kind::B60 | Kind::B100);
     let kind = if reduced { Kind::B } else { ship.kind };
-    corrected(ship, kind, timber_share(ship, &l, &e, edition), &e, edition)
+    corrected(ship, kind, TIMBER_SHARES.map(|per_cent| over(per_cent, 100)), &e)
 }
 
-/// 28 to 38 with the line of this type and this share of the deduction.
-fn corrected(ship: &Ship, line: Kind, share: Fraction, e: &Fraction, edition: Edition) -> Fraction {
+/// 28 to 38 with the line of this type and these shares of the deduction.
+fn corrected(ship: &Ship, line: Kind, shares: [Fraction; 11], e: &Fraction) -> Fraction {
     let l = over(ship.length, 1000);
     let s: Fraction = enclosed(ship).map(|house| plain_length(house, &l)).sum();
-    let table = tabular(line, ship.length) + short_b_addition(ship, &l, e);
-    let deep = table * fullness(ship, edition) + depth_correction(ship, &l);
-    deep - full_deduction(&l) * share - sheer_deduction(ship, &l, &s)
+    let full = (tabular(line, ship.length) + short_b_addition(ship, &l, e)) * fullness(ship);
+    let deep = full + depth_correction(ship, &l);
+    deep - houses_deduction(ship, &l, e, shares) - sheer_deduction(ship, &l, &s)
 }
 
 fn enclosed(ship: &Ship) -> impl Iterator<Item = &House> {
@@ -95,12 +91,9 @@ fn forecastle(ship: &Ship) -> Option<&House> {
     enclosed(ship).find(|house| house.fore >= ship.length)
 }
 
-/// 30: in 2003 never above 1.0.
-fn limited_cb(ship: &Ship, edition: Edition) -> Fraction {
-    match edition {
-        Edition::Y2003 => over(ship.cb, 10_000).min(whole(1)),
-        Edition::Y1966 => over(ship.cb, 10_000),
-    }
+/// 30: never above 1.0.
+fn limited_cb(ship: &Ship) -> Fraction {
+    over(ship.cb.min(10_000), 10_000)
 }
 
 /// 27 and 28: the type's line.
@@ -136,8 +129,8 @@ fn short_b_addition(ship: &Ship, l: &Fraction, e: &Fraction) -> Fraction {
 }
 
 /// 30: what the sum so far is multiplied by.
-fn fullness(ship: &Ship, edition: Edition) -> Fraction {
-    let cb = limited_cb(ship, edition);
+fn fullness(ship: &Ship) -> Fraction {
+    let cb = limited_cb(ship);
     if cb > over(68, 100) {
         (cb + over(68, 100)) / over(136, 100)
     } else {
@@ -158,39 +151,16 @@ fn depth_correction(ship: &Ship, l: &Fraction) -> Fraction {
         .map_or(whole(0), |house| correction * ratio_of_heights(house, l))
 }
 
-/// 37(1): the deduction where E is L.
-fn full_deduction(l: &Fraction) -> Fraction {
-    linear(l, &[(24, 350), (85, 860), (122, 1070)].map(|(at, mm)| (whole(at), whole(mm))))
-}
-
-/// 37: the share of it, from the row of 2003 for type A in both editions.
-fn share(ship: &Ship, l: &Fraction, e: &Fraction, edition: Edition) -> Fraction {
-    match (edition, ship.kind) {
-        (_, Kind::A) | (Edition::Y2003, _) => {
-            share_of_2003(ship, l, e, SHARES.map(|mille| over(mille, 1000)))
-        }
-        (Edition::Y1966, _) => older::share(ship, l, e),
-    }
-}
-
-/// 45(1): the same for timber.
-fn timber_share(ship: &Ship, l: &Fraction, e: &Fraction, edition: Edition) -> Fraction {
-    let row = TIMBER_SHARES.map(|per_cent| over(per_cent, 100));
-    match edition {
-        Edition::Y2003 => share_of_2003(ship, l, e, row),
-        Edition::Y1966 => older::timber_share(ship, l, e, row),
-    }
-}
-
-/// The row's share at E/L; none for type B without a forecastle of 0.07 L.
-fn share_of_2003(ship: &Ship, l: &Fraction, e: &Fraction, shares: [Fraction; 11]) -> Fraction {
+/// 37, with the share of the full deduction at each tenth of E/L.
+fn houses_deduction(ship: &Ship, l: &Fraction, e: &Fraction, shares: [Fraction; 11]) -> Fraction {
     let long_enough =
         forecastle(ship).is_some_and(|house| effective_length(house, l) >= over(7, 100) * l);
     if ship.kind != Kind::A && !long_enough {
         return whole(0);
     }
+    let full = [(24, 350), (85, 860), (122, 1070)].map(|(at, mm)| (whole(at), whole(mm)));
     let shares: Vec<_> = (0..).zip(shares).map(|(tenth, share)| (over(tenth, 10), share)).collect();
-    linear(&(e / l), &shares)
+    linear(l, &full) * linear(&(e / l), &shares)
 }
 
 /// 38(14) to (16): what is deducted, negative if the sheer is deficient.
@@ -204,23 +174,15 @@ fn sheer_deduction(ship: &Ship, l: &Fraction, s: &Fraction) -> Fraction {
     }
 }
 
-/// 39(1) in 2003.
-fn bow_height_of_2003(ship: &Ship, l: &Fraction) -> Fraction {
+/// 39
+fn bow_freeboard(ship: &Ship, l: &Fraction) -> Fraction {
     let x = l / whole(100);
     let b1 = whole(6075) * &x - whole(1875) * &x * &x + whole(200) * &x * &x * &x;
     let d1 = over(85, 100) * over(ship.moulded, 1000);
-    let b2 = over(208, 100) + over(609, 1000) * limited_cb(ship, Edition::Y2003)
+    let b2 = over(208, 100) + over(609, 1000) * limited_cb(ship)
         - over(1603, 1000) * over(ship.cwf, 10_000)
         - over(129, 10_000) * l / d1;
-    b1 * b2
-}
-
-/// 39
-fn bow_freeboard(ship: &Ship, l: &Fraction, edition: Edition) -> Fraction {
-    let mut bow = match edition {
-        Edition::Y2003 => bow_height_of_2003(ship, l),
-        Edition::Y1966 => older::bow_height(ship, l),
-    };
+    let mut bow = b1 * b2;
     if ship.sheer[4] > 0 {
         bow = bow - whole(ship.sheer[5]);
     }
@@ -303,32 +265,32 @@ fn cover(ship: &Ship, l: &Fraction) -> Fraction {
     reaches / (over(2, 10) * l)
 }
 
-/// The promise on the summer mark, in its edition: exact <= S < exact + 1.1 mm.
-pub fn bound_holds(ship: &Ship, edition: Edition) -> bool {
-    let mark = whole(marks::steps(ship, edition).summer);
-    let exact = exact(ship, edition).summer;
+/// The promise on the summer mark: exact <= S < exact + 1.1 mm.
+pub fn bound_holds(ship: &Ship) -> bool {
+    let mark = whole(marks::steps(ship).summer);
+    let exact = exact(ship).summer;
     exact <= mark && mark < exact + over(11, 10)
 }
 
 /// The same of LS, before it is compared with D.
-pub fn timber_bound_holds(ship: &Ship, edition: Edition) -> bool {
-    let steps = marks::timber_steps(ship, &marks::steps(ship, edition), edition);
-    let (mark, exact) = (whole(steps.summer), timber(ship, edition));
+pub fn timber_bound_holds(ship: &Ship) -> bool {
+    let mark = whole(marks::timber_steps(ship, &marks::steps(ship)).summer);
+    let exact = timber(ship);
     exact <= mark && mark < exact + over(11, 10)
 }
 
 /// What the roundings cost LS, um: its round-up to mm included, and before it.
-pub fn timber_cost(ship: &Ship, edition: Edition) -> (f64, f64) {
-    let steps = marks::timber_steps(ship, &marks::steps(ship, edition), edition);
-    let exact = timber(ship, edition) * whole(1000);
+pub fn timber_cost(ship: &Ship) -> (f64, f64) {
+    let steps = marks::timber_steps(ship, &marks::steps(ship));
+    let exact = timber(ship) * whole(1000);
     let above = |um: i64| (whole(um) - &exact).to_f64();
     (above(1000 * steps.summer), above(steps.corrected))
 }
 
 /// What the roundings cost on this ship.
-pub fn cost(ship: &Ship, edition: Edition) -> Cost {
-    let steps = marks::steps(ship, edition);
-    let exact = exact(ship, edition);
+pub fn cost(ship: &Ship) -> Cost {
+    let steps = marks::steps(ship);
+    let exact = exact(ship);
     let above = |um: i64, exact: &Fraction| (whole(um) - exact * whole(1000)).to_f64();
     Cost {
         mark: above(1000 * steps.summer, &exact.summer),

@@ -1,13 +1,10 @@
-//! The six ordinary marks and the six timber marks in either edition, with the roundings that a mark is worked with.
+//! The six ordinary marks and the six timber marks, with the roundings that a mark is worked with.
 //!
-//! "Up" and "down" are toward plus and minus infinity, to whole um. Every product here fits an i64; where
+//! "Up" and "down" are toward plus and minus infinity, to whole um. Every product fits an i64; where
 //! one comes near, its bound stands beside it.
-
-pub mod older;
 
 use std::fmt;
 
-use crate::edition::Edition;
 use crate::record::{House, Kind, Ship};
 use crate::refusal::Refusal;
 use crate::{table27, table28};
@@ -89,8 +86,7 @@ pub struct Steps {
     pub depth: i64,
     /// Regulation 31(2) and (3).
     pub depth_reduction: i64,
-    /// Regulation 37: the share of the full deduction in millionths, and what is deducted.
-    pub share: i64,
+    /// Regulation 37.
     pub deduction: i64,
     /// Regulation 38: mean excess of sheer, negative if deficient.
     pub sheer_mean: i64,
@@ -115,8 +111,7 @@ pub struct TimberSteps {
     pub table: i64,
     /// Table and addition for short B ships, after regulation 30.
     pub fullness: i64,
-    /// Regulation 37 with the percentages of 45(1): the share in millionths, and what is deducted.
-    pub share: i64,
+    /// Regulation 37 with the percentages of 45(1).
     pub deduction: i64,
     /// Freeboard after regulations 28 to 38.
     pub corrected: i64,
@@ -135,16 +130,16 @@ fn up(number: i64, divisor: i64) -> i64 {
 }
 
 /// The marks, or refusal 12 or 13.
-pub fn marks(ship: &Ship, edition: Edition) -> Result<Marks, Refusal> {
-    let steps = steps(ship, edition);
+pub fn marks(ship: &Ship) -> Result<Marks, Refusal> {
+    let steps = steps(ship);
     let ordinary = ordinary(ship, steps.summer)?;
-    let timber = ship.timber.then(|| timber(ship, &steps, &ordinary, edition));
+    let timber = ship.timber.then(|| timber(ship, &steps, &ordinary));
     Ok(Marks { timber, ..ordinary })
 }
 
 /// The summer mark alone, or refusal 12 or 13.
-pub fn summer(ship: &Ship, edition: Edition) -> Result<i64, Refusal> {
-    ordinary(ship, steps(ship, edition).summer).map(|marks| marks.summer)
+pub fn summer(ship: &Ship) -> Result<i64, Refusal> {
+    ordinary(ship, steps(ship).summer).map(|marks| marks.summer)
 }
 
 /// The six ordinary marks, or refusal 12 or 13. The timber flag is not looked at.
@@ -171,8 +166,8 @@ fn ordinary(ship: &Ship, summer: i64) -> Result<Marks, Refusal> {
 }
 
 /// Regulation 45: the timber marks of a type B ship with these steps and ordinary marks.
-fn timber(ship: &Ship, steps: &Steps, ordinary: &Marks, edition: Edition) -> Timber {
-    let summer = timber_steps(ship, steps, edition).summer;
+fn timber(ship: &Ship, steps: &Steps, ordinary: &Marks) -> Timber {
+    let summer = timber_steps(ship, steps).summer;
     let draught = ship.depth - summer;
     if draught <= 0 {
         return Timber::default();
@@ -194,41 +189,40 @@ fn timber(ship: &Ship, steps: &Steps, ordinary: &Marks, edition: Edition) -> Tim
     }
 }
 
-/// The steps to the summer timber mark, from those to the summer mark in the same edition. No bow height is
-/// asked for (39(1)), and there is no floor.
-pub fn timber_steps(ship: &Ship, steps: &Steps, edition: Edition) -> TimberSteps {
+/// The steps to the summer timber mark, from those to the summer mark. No bow height is asked for (39(1)),
+/// and there is no floor.
+pub fn timber_steps(ship: &Ship, steps: &Steps) -> TimberSteps {
     let line = match ship.kind {
         Kind::B60 | Kind::B100 => Kind::B, // 45(6)
         kind => kind,
     };
     let table = tabular(line, ship.length);
-    let fullness = after_fullness(ship, table + steps.short_b, edition);
-    let share = timber_share(ship, steps.effective, steps.forecastle, edition);
-    let deduction = deducted(ship.length, share);
+    let fullness = after_fullness(ship, table + steps.short_b);
+    let deduction = houses_deduction(ship, steps.effective, steps.forecastle, &TIMBER_PERCENTAGES);
     let corrected = fullness + steps.depth - steps.depth_reduction - deduction + steps.sheer_added
         - steps.sheer_deducted;
-    TimberSteps { table, fullness, share, deduction, corrected, summer: up(corrected, 1000) }
+    TimberSteps { table, fullness, deduction, corrected, summer: up(corrected, 1000) }
 }
 
 /// The steps to the summer mark.
-pub fn steps(ship: &Ship, edition: Edition) -> Steps {
+pub fn steps(ship: &Ship) -> Steps {
     let length = ship.length;
     let covered = enclosed(ship).map(|(_, house)| length_within(house, length)).sum();
     let effective = effective_sum(ship, length);
     let forecastle = enclosed(ship).find(|(_, h)| h.fore >= ship.length).map(|(i, _)| i);
     let table = tabular(ship.kind, length);
     let short_b = short_b_addition(ship.kind, length, effective);
-    let fullness = after_fullness(ship, table + short_b, edition);
+    let fullness = after_fullness(ship, table + short_b);
     let depth = depth_addition(length, ship.depth);
     let depth_reduction = depth_reduction(ship, length);
-    let share = share(ship, effective, forecastle, edition);
-    let deduction = deducted(length, share);
+    let deduction = houses_deduction(ship, effective, forecastle, &PERCENTAGES);
     let sheer_mean = mean_excess_of_sheer(&ship.sheer, length);
     let cover_reach = cover_reach(ship, length);
     let (sheer_added, sheer_deducted) = sheer_correction(sheer_mean, length, covered, cover_reach);
     let corrected = fullness + depth - depth_reduction - deduction + sheer_added - sheer_deducted;
-    let bow_height = bow_height(ship, edition);
+    let bow_height = bow_height(ship, length);
     let bow = bow_height - bow_credit(ship, forecastle);
+    let summer = up(corrected.max(bow), 1000).max(floor(ship.kind));
     Steps {
         covered,
         effective,
@@ -238,7 +232,6 @@ pub fn steps(ship: &Ship, edition: Edition) -> Steps {
         fullness,
         depth,
         depth_reduction,
-        share,
         deduction,
         sheer_mean,
         cover_reach,
@@ -247,7 +240,7 @@ pub fn steps(ship: &Ship, edition: Edition) -> Steps {
         corrected,
         bow_height,
         bow,
-        summer: up(corrected.max(bow), 1000).max(floor(ship.kind)),
+        summer,
     }
 }
 
@@ -353,17 +346,14 @@ fn short_b_addition(kind: Kind, length: i64, effective: i64) -> i64 {
     }
 }
 
-/// Cb in 1/10000, in 2003 never above 1.0 (30).
-fn limited_cb(ship: &Ship, edition: Edition) -> i64 {
-    match edition {
-        Edition::Y2003 => ship.cb.min(10_000),
-        Edition::Y1966 => ship.cb,
-    }
+/// Cb in 1/10000, never above 1.0 (30).
+fn limited_cb(ship: &Ship) -> i64 {
+    ship.cb.min(10_000)
 }
 
 /// Regulation 30: times (Cb + 0.68) / 1.36 above 0.68, up.
-fn after_fullness(ship: &Ship, freeboard: i64, edition: Edition) -> i64 {
-    match limited_cb(ship, edition) {
+fn after_fullness(ship: &Ship, freeboard: i64) -> i64 {
+    match limited_cb(ship) {
         ..=6_800 => freeboard,
         cb => up(freeboard * (cb + 6_800), 13_600),
     }
@@ -425,41 +415,25 @@ fn deduction_share(length: i64, effective: i64, percentages: &[i64; 11]) -> i64 
     }
 }
 
-/// 2003's regulation 37(3), on the fraction itself: type B needs a forecastle of 0.07 L.
-fn has_deduction(ship: &Ship, forecastle: Option<usize>) -> bool {
-    let long_enough = |place: usize| {
-        let (um, parts) = effective_length(&ship.houses[place], ship.length);
-        um >= 70 * ship.length * parts
-    };
-    ship.kind.is_a() || forecastle.is_some_and(long_enough)
-}
-
-/// Regulation 37: the share of the full deduction in millionths. Type A has the same row in both editions.
-fn share(ship: &Ship, effective: i64, forecastle: Option<usize>, edition: Edition) -> i64 {
-    match edition {
-        Edition::Y1966 if !ship.kind.is_a() => {
-            older::share(ship.length, effective, &older::lengths(ship, forecastle))
-        }
-        Edition::Y2003 if !has_deduction(ship, forecastle) => 0,
-        _ => deduction_share(ship.length, effective, &PERCENTAGES),
+/// Regulation 37: what the houses take off with these percentages, down.
+fn houses_deduction(
+    ship: &Ship,
+    effective: i64,
+    forecastle: Option<usize>,
+    percentages: &[i64; 11],
+) -> i64 {
+    let length = ship.length;
+    // 37(3), on the fraction itself.
+    let long_enough = forecastle.is_some_and(|place| {
+        let (um, parts) = effective_length(&ship.houses[place], length);
+        um >= 70 * length * parts
+    });
+    if ship.kind.is_a() || long_enough {
+        let share = deduction_share(length, effective, percentages);
+        down(full_deduction(length) * share, 1_000_000)
+    } else {
+        0
     }
-}
-
-/// The same with the percentages of 45(1), for a type B ship.
-fn timber_share(ship: &Ship, effective: i64, forecastle: Option<usize>, edition: Edition) -> i64 {
-    let row = &TIMBER_PERCENTAGES;
-    match edition {
-        Edition::Y1966 => {
-            older::timber_share(ship.length, effective, row, &older::lengths(ship, forecastle))
-        }
-        Edition::Y2003 if !has_deduction(ship, forecastle) => 0,
-        Edition::Y2003 => deduction_share(ship.length, effective, row),
-    }
-}
-
-/// Regulation 37: what the houses take off with this share, down.
-fn deducted(length: i64, share: i64) -> i64 {
-    down(full_deduction(length) * share, 1_000_000)
 }
 
 /// Regulation 38(8) to (11): mean excess of sheer over both halves, down.
@@ -516,16 +490,9 @@ fn sheer_correction(mean: i64, length: i64, covered: i64, reach: i64) -> (i64, i
 }
 
 /// Regulation 39(1): bow height, up.
-fn bow_height(ship: &Ship, edition: Edition) -> i64 {
-    match edition {
-        Edition::Y2003 => bow_height_of_2003(ship, ship.length),
-        Edition::Y1966 => older::bow_height(ship),
-    }
-}
-
-fn bow_height_of_2003(ship: &Ship, length: i64) -> i64 {
+fn bow_height(ship: &Ship, length: i64) -> i64 {
     // b2 in millionths, over 170 M: 0.0129 L / (0.85 M) is 2580000 L / (170 M) millionths.
-    let coefficients = 20_800_000 + 609 * limited_cb(ship, Edition::Y2003) - 1_603 * ship.cwf;
+    let coefficients = 20_800_000 + 609 * limited_cb(ship) - 1_603 * ship.cwf;
     let b2 = up(17 * ship.moulded * coefficients - 2_580_000 * length, 170 * ship.moulded);
     // b1 in um, over 5e9.
     let cubic = 303_750_000_000 * length - 937_500 * length.pow(2) + length.pow(3);

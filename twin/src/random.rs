@@ -1,9 +1,7 @@
 //! Random ships from a seed, the same ones on every machine.
 
-mod older;
 mod timber;
 
-use crate::edition::Edition;
 use crate::marks::{self, standard_height};
 use crate::record::{House, RawShip, Ship};
 
@@ -40,12 +38,12 @@ impl Random {
     }
 
     /// A valid ship of any of the five types with `n` houses. One in three is a low one, one in eight
-    /// has its mark in this edition about the floor; one time in three houses of it are set in.
-    pub fn any_ship(&mut self, n: usize, edition: Edition) -> RawShip {
+    /// has its mark about the floor; one time in three houses of it are set in.
+    pub fn any_ship(&mut self, n: usize) -> RawShip {
         let kind = self.kind();
         let mut raw = match self.between(1, 24) {
             // Its mark is what it is by its houses: they have their breadths before.
-            1..=3 => return self.ship_at_floor(kind, n, edition),
+            1..=3 => return self.ship_at_floor(kind, n),
             4..=11 => self.low_ship_of(Some(kind), n),
             _ => self.ship_of(kind, n),
         };
@@ -183,7 +181,7 @@ impl Random {
 
     /// A valid ship of this type with `n` houses whose summer or tropical mark is at the floor of its
     /// type, at that of another, or within 2 mm of either. With no house it is any ship.
-    pub fn ship_at_floor(&mut self, kind: u64, n: usize, edition: Edition) -> RawShip {
+    pub fn ship_at_floor(&mut self, kind: u64, n: usize) -> RawShip {
         // Some lengths and houses have no depth for it.
         for _ in 0..24 {
             let length = self.length_of(kind);
@@ -193,7 +191,7 @@ impl Random {
             self.put_long_houses(&mut raw.houses[..n], length);
             self.set_in_at_times(&mut raw.houses[..n]);
             let floor = self.pick(&[50, 150]) + self.between(-2, 2);
-            if let Some(depth) = self.depth_for(&raw, floor, edition) {
+            if let Some(depth) = self.depth_for(&raw, floor) {
                 raw.depth = depth;
                 return raw;
             }
@@ -216,10 +214,10 @@ impl Random {
     }
 
     /// A depth for which S, or T, comes to so many mm or just above before the floor.
-    fn depth_for(&mut self, raw: &RawShip, mm: i64, edition: Edition) -> Option<u64> {
+    fn depth_for(&mut self, raw: &RawShip, mm: i64) -> Option<u64> {
         let tropical = self.once_in(2);
         least_depth(raw, mm, |ship| {
-            let steps = marks::steps(ship, edition);
+            let steps = marks::steps(ship);
             let summer = steps.corrected.max(steps.bow).div_euclid(1000);
             if tropical {
                 summer - (ship.depth - summer).div_euclid(48)

@@ -2,9 +2,10 @@
 
 mod common;
 
-use common::in_2003::{bound_holds, cost, exact, steps};
 use common::{house, k1, k2, ship, with};
 use twin::big::{over, whole};
+use twin::exact::{bound_holds, cost, exact};
+use twin::marks::steps;
 use twin::random::Random;
 use twin::record::{House, RawShip};
 

@@ -3,9 +3,9 @@
 
 mod common;
 
-use common::in_2003::{marks, shortest_poop, steps, summer_with_poop};
 use common::{house, k1, k2, packed, ship, with};
-use twin::marks;
+use twin::marks::{self, marks, steps};
+use twin::question::{shortest_poop, summer_with_poop};
 use twin::record::{House, Kind, RawShip};
 use twin::refusal::Refusal;
 use twin::table28;

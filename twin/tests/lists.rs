@@ -2,8 +2,9 @@
 
 mod common;
 
-use common::in_2003::{marks, shortest_poop};
 use common::{house, k1, packed, with};
+use twin::marks::marks;
+use twin::question::shortest_poop;
 use twin::random::Random;
 use twin::record::{check_houses, read, write, House, RawShip};
 use twin::refusal::Refusal;

@@ -2,10 +2,10 @@
 
 mod common;
 
-use common::in_2003::{bound_holds, exact, marks, steps};
 use common::{house, k1, k2, ship, with};
 use twin::big::{whole, Fraction};
-use twin::marks::Marks;
+use twin::exact::{bound_holds, exact};
+use twin::marks::{marks, steps, Marks};
 use twin::random::Random;
 use twin::record::{House, Houses, RawShip, Ship};
 use twin::refusal::Refusal;

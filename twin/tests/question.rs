@@ -2,9 +2,9 @@
 
 mod common;
 
-use common::in_2003::{marks, shortest_poop, summer_with_poop};
 use common::{house, k1, k2, packed, ship, with};
-use twin::edition::Edition;
+use twin::marks::marks;
+use twin::question::{shortest_poop, summer_with_poop};
 use twin::random::Random;
 use twin::record::{read, RawShip};
 use twin::refusal::Refusal;
@@ -86,7 +86,7 @@ fn agrees_with_a_search_over_records() {
     let mut amidships = 0;
     while answers.iter().sum::<i32>() < 120 {
         let n = random.between(0, 3) as usize;
-        let raw = random.any_ship(n, Edition::Y2003);
+        let raw = random.any_ship(n);
         if raw.length > 110_000 || raw.houses[..n].first().is_some_and(|house| house.aft <= 0) {
             continue;
         }

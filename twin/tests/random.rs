@@ -2,10 +2,8 @@
 
 mod common;
 
-use common::in_2003::{marks, steps};
 use common::ship;
-use twin::edition::Edition;
-use twin::marks::{floor, standard_height};
+use twin::marks::{floor, marks, standard_height, steps};
 use twin::random::Random;
 use twin::record::{any_set_in, check_houses, House, Kind, Ship};
 
@@ -58,7 +56,7 @@ fn low_ships() {
 #[test]
 fn share_of_low_ships() {
     let mut random = Random::new(15);
-    let ships: Vec<_> = (0..9_000).map(|i| ship(&random.any_ship(i % 9, Edition::Y2003))).collect();
+    let ships: Vec<_> = (0..9_000).map(|i| ship(&random.any_ship(i % 9))).collect();
     let reduced = ships.iter().filter(|ship| steps(ship).depth_reduction > 0).count();
     let deep = ships.iter().filter(|ship| steps(ship).depth > 0).count();
     assert!((1_000..3_000).contains(&reduced), "{reduced}");
@@ -97,7 +95,7 @@ fn breadths() {
 #[test]
 fn share_of_set_in_houses() {
     let mut random = Random::new(35);
-    let ships: Vec<_> = (0..9_000).map(|i| ship(&random.any_ship(i % 9, Edition::Y2003))).collect();
+    let ships: Vec<_> = (0..9_000).map(|i| ship(&random.any_ship(i % 9))).collect();
     let set_in = ships.iter().filter(|ship| any_set_in(&ship.houses)).count();
     assert!((1_500..3_500).contains(&set_in), "{set_in}");
     let counts = |ship: &Ship| {
@@ -122,17 +120,17 @@ fn share_of_timber() {
     let mut random = Random::new(45);
     let mut seen = [[0_i32; 2]; 5];
     for i in 0..9_000 {
-        let mut raw = random.any_ship(i % 9, Edition::Y2003);
+        let mut raw = random.any_ship(i % 9);
         random.flag_at_times(&mut raw);
         let ship = ship(&raw);
         seen[ship.kind as usize][usize::from(ship.timber)] += 1;
     }
     assert_eq!(seen[0][1], 0);
     assert!(seen[1..].iter().all(|[no, yes]| (2 * yes - no).abs() < no / 4), "{seen:?}");
-    let ships = (0..9_000).map(|i| ship(&random.any_ship_or_timber(i % 9, Edition::Y2003)));
+    let ships = (0..9_000).map(|i| ship(&random.any_ship_or_timber(i % 9)));
     let timber = ships.filter(|ship| ship.timber).count();
     assert!((3_500..4_500).contains(&timber), "{timber}");
-    assert!((0..900).all(|i| ship(&random.timber_ship(i % 9, Edition::Y2003)).timber));
+    assert!((0..900).all(|i| ship(&random.timber_ship(i % 9)).timber));
 }
 
 /// Every type at the borders of its line, on both sides of Cb 0.68, and about both floors.
@@ -144,7 +142,7 @@ fn types_at_their_borders() {
     let mut reduced = [0; 2];
     let mut floors = [[0; 4]; 5];
     for i in 0..60_000 {
-        let ship = ship(&random.any_ship(i % 9, Edition::Y2003));
+        let ship = ship(&random.any_ship(i % 9));
         let (l, kind) = (ship.length, ship.kind as usize);
         let count = |counts: &mut [i32], holds: &[bool]| {
             for (count, &holds) in counts.iter_mut().zip(holds) {

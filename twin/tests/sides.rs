@@ -3,11 +3,11 @@
 
 mod common;
 
-use common::in_2003::{bound_holds, cost, exact, marks, shortest_poop, steps, summer_with_poop};
 use common::{bulk, house, k1, k2, packed, packed_as, set_in, ship, with};
 use twin::big::{over, whole, Fraction};
-use twin::edition::Edition;
-use twin::marks::Steps;
+use twin::exact::{bound_holds, cost, exact};
+use twin::marks::{marks, steps, Steps};
+use twin::question::{shortest_poop, summer_with_poop};
 use twin::random::Random;
 use twin::record::{check_houses, read, write, House, RawShip, Ship, Version, MOST_BYTES};
 use twin::refusal::Refusal;
@@ -247,7 +247,7 @@ fn steps_without_the_ratio() {
     let mut random = Random::new(35);
     let mut seen = [0; 5];
     for i in 0..8_000 {
-        let mut raw = random.any_ship(i % 9, Edition::Y2003);
+        let mut raw = random.any_ship(i % 9);
         raw.houses.iter_mut().for_each(|house| (house.breadth, house.beam) = (0, 0));
         let full = steps(&ship(&raw));
         random.set_in(&mut raw.houses[..i % 9]);
@@ -256,7 +256,6 @@ fn steps_without_the_ratio() {
             effective: full.effective,
             short_b: full.short_b,
             fullness: full.fullness,
-            share: full.share,
             deduction: full.deduction,
             corrected: full.corrected,
             summer: full.summer,
@@ -357,7 +356,7 @@ fn exact_value() {
 fn bound_over_set_in_ships() {
     let mut random = Random::new(92);
     for i in 0..2_000 {
-        let mut raw = random.any_ship(i % 9, Edition::Y2003);
+        let mut raw = random.any_ship(i % 9);
         random.set_in(&mut raw.houses[..i % 9]);
         let ship = ship(&raw);
         assert!(bound_holds(&ship), "{ship:?}");
@@ -430,7 +429,7 @@ fn further_in_is_never_better() {
     let mut seen = [0; 5];
     for i in 0..150_000 {
         let n = 1 + i % 8;
-        let raw = random.any_ship(n, Edition::Y2003);
+        let raw = random.any_ship(n);
         let mut other = raw.clone();
         for _ in 0..random.between(1, 2) {
             let place = random.between(0, n as i64 - 1) as usize;

@@ -3,14 +3,11 @@
 
 mod common;
 
-use common::in_2003::{
-    exact_timber, marks, shortest_poop, steps, summer_with_poop, timber_bound_holds, timber_cost,
-    timber_steps,
-};
 use common::{bulk, house, k1, k2, packed, packed_as, set_in, ship, with};
 use twin::big::{over, whole};
-use twin::edition::Edition;
-use twin::marks::{tabular, Marks, Timber, TimberSteps};
+use twin::exact::{self, timber_bound_holds, timber_cost};
+use twin::marks::{marks, steps, tabular, timber_steps, Marks, Timber, TimberSteps};
+use twin::question::{shortest_poop, summer_with_poop};
 use twin::random::Random;
 use twin::record::{read, write, House, Kind, RawShip, Ship, Version};
 use twin::refusal::Refusal;
@@ -89,7 +86,7 @@ fn steps_of_k2() {
     let full = over(860, 1) + over(210 * 5, 37);
     let addition = over(75, 1) * (over(35, 100) - over(1, 9));
     let share = over(31, 100) + over(11, 900);
-    assert_eq!(exact_timber(&ship(&flagged(&k2()))), whole(1_075) + addition - full * share);
+    assert_eq!(exact::timber(&ship(&flagged(&k2()))), whole(1_075) + addition - full * share);
 }
 
 /// The percentages at every tenth, in millionths, and half-way between two.
@@ -154,7 +151,7 @@ fn rounding_of_the_summer_timber_mark() {
     let mut random = Random::new(45);
     let mut seen = [0; 5];
     for i in 0..20_000 {
-        let raw = random.timber_ship(i % 9, Edition::Y2003);
+        let raw = random.timber_ship(i % 9);
         let TimberSteps { corrected, summer, .. } = steps_of(&raw);
         assert!(1_000 * summer >= corrected && 1_000 * (summer - 1) < corrected, "{raw:?}");
         for (count, holds) in seen.iter_mut().zip([
@@ -176,7 +173,7 @@ fn other_marks() {
     let mut random = Random::new(7);
     let mut seen = [0; 6];
     for i in 0..20_000 {
-        let raw = random.timber_ship(i % 9, Edition::Y2003);
+        let raw = random.timber_ship(i % 9);
         let Ok(Marks { winter, winter_north_atlantic, timber, .. }) = marks(&ship(&raw)) else {
             continue;
         };
@@ -213,12 +210,12 @@ fn order_of_the_marks() {
     let mut random = Random::new(3);
     let (mut compared, mut below) = (0, 0);
     for i in 0..40_000 {
-        let mut raw = random.any_ship(i % 9, Edition::Y2003);
+        let mut raw = random.any_ship(i % 9);
         raw.timber = raw.kind != 0;
         if !raw.timber {
             continue;
         }
-        let raw = if i % 4 == 0 { random.timber_ship(i % 9, Edition::Y2003) } else { raw };
+        let raw = if i % 4 == 0 { random.timber_ship(i % 9) } else { raw };
         let ship = ship(&raw);
         let plain = matches!(raw.kind, 1 | 4);
         let ls = steps_of(&raw).summer;
@@ -269,11 +266,7 @@ fn flag_changes_nothing_else() {
     let mut random = Random::new(9);
     let mut seen = [0; 4];
     for i in 0..20_000 {
-        let mut raw = if i % 2 == 0 {
-            random.any_ship(i % 9, Edition::Y2003)
-        } else {
-            random.timber_ship(i % 9, Edition::Y2003)
-        };
+        let mut raw = if i % 2 == 0 { random.any_ship(i % 9) } else { random.timber_ship(i % 9) };
         if raw.kind == 0 {
             continue;
         }
@@ -307,11 +300,7 @@ fn bound_over_timber_ships() {
     let mut random = Random::new(11);
     let mut seen = [0; 5];
     for i in 0..1_500 {
-        let mut raw = if i % 3 == 0 {
-            random.timber_ship(i % 9, Edition::Y2003)
-        } else {
-            random.any_ship(i % 9, Edition::Y2003)
-        };
+        let mut raw = if i % 3 == 0 { random.timber_ship(i % 9) } else { random.any_ship(i % 9) };
         for kind in 1..=4 {
             raw.kind = kind;
             let Ok(ship) = flagged(&raw).check() else { continue };
@@ -319,7 +308,7 @@ fn bound_over_timber_ships() {
             let (mark, before) = timber_cost(&ship);
             assert!((0.0..1_012.0).contains(&mark) && (0.0..12.0).contains(&before), "{ship:?}");
             seen[kind as usize] += 1;
-            seen[0] += i32::from(exact_timber(&ship) < whole(0));
+            seen[0] += i32::from(exact::timber(&ship) < whole(0));
         }
     }
     assert!(seen[0] > 50 && seen[1..].iter().all(|&count| count > 500), "{seen:?}");
@@ -507,7 +496,7 @@ fn question_without_timber() {
     let mut answers = [0; 3];
     while answers.iter().sum::<i32>() < 150 {
         let n = random.between(0, 7) as usize;
-        let raw = random.timber_ship(n, Edition::Y2003);
+        let raw = random.timber_ship(n);
         let Ok(ship) = raw.check() else { continue };
         let plain = Ship { timber: false, ..ship.clone() };
         let height = random.between(1, 3_000) as u64;

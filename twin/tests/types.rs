@@ -3,10 +3,10 @@
 
 mod common;
 
-use common::in_2003::{bound_holds, cost, marks, shortest_poop, steps};
 use common::{bulk, house, k1, k2, packed, packed_as, ship, with};
-use twin::edition::Edition;
-use twin::marks::{floor, increase, tabular};
+use twin::exact::{bound_holds, cost};
+use twin::marks::{floor, increase, marks, steps, tabular};
+use twin::question::shortest_poop;
 use twin::random::Random;
 use twin::record::{read, write, House, Kind, RawShip, Ship, Version};
 use twin::refusal::Refusal;
@@ -117,7 +117,7 @@ fn kinds_of_b_differ_in_line_and_floor() {
     let mut random = Random::new(27);
     let mut compared = 0;
     for i in 0..4_000 {
-        let raw = random.any_ship(i % 9, Edition::Y2003);
+        let raw = random.any_ship(i % 9);
         let Ok(plain) = of(Kind::B, &raw).check() else { continue };
         let b = steps(&plain);
         for (kind, least) in [(Kind::B60, 50), (Kind::B100, 50), (Kind::Covers, 150)] {
@@ -166,7 +166,7 @@ fn order_of_the_marks() {
     let mut random = Random::new(5);
     let (mut pairs, mut equal) = ([0; 4], [0; 4]);
     for i in 0..20_000 {
-        let raw = random.any_ship(i % 9, Edition::Y2003);
+        let raw = random.any_ship(i % 9);
         let marks: Vec<Option<i64>> = order.iter().map(|&kind| mark(kind, &raw)).collect();
         for (place, pair) in marks.windows(2).enumerate() {
             if let [Some(less), Some(more)] = pair {
@@ -194,7 +194,7 @@ fn marks_of_a_and_b100() {
     let mut random = Random::new(100);
     let mut seen = [0; 4];
     for i in 0..20_000 {
-        let mut raw = random.any_ship(i % 9, Edition::Y2003);
+        let mut raw = random.any_ship(i % 9);
         raw.kind = 3;
         let Ok(b100) = raw.check() else { continue };
         let a = ship(&of(Kind::A, &raw));
@@ -253,7 +253,7 @@ fn bound_over_all_types() {
     let mut random = Random::new(11);
     let mut seen = [0; 5];
     for i in 0..2_000 {
-        let raw = random.any_ship(i % 9, Edition::Y2003);
+        let raw = random.any_ship(i % 9);
         for kind in Kind::ALL {
             let Ok(ship) = of(kind, &raw).check() else { continue };
             assert!(bound_holds(&ship), "{ship:?}");
@@ -392,7 +392,7 @@ fn round_trips_over_all_versions() {
     let mut random = Random::new(12);
     let mut seen = [[0; 4]; 4];
     for i in 0..6_000 {
-        let mut raw = random.any_ship(i % 9, Edition::Y2003);
+        let mut raw = random.any_ship(i % 9);
         random.flag_at_times(&mut raw);
         let lowest = Version::lowest(&raw);
         for version in Version::ALL {
@@ -424,7 +424,7 @@ fn round_trips_over_all_versions() {
 fn lowest_version() {
     let mut random = Random::new(13);
     for i in 0..6_000 {
-        let mut raw = random.any_ship(i % 9, Edition::Y2003);
+        let mut raw = random.any_ship(i % 9);
         random.set_in(&mut raw.houses[i % 9..]);
         raw.timber = random.once_in(3);
         let set_in = raw.houses[..i % 9].iter().any(|house| house.breadth > 0);
@@ -444,7 +444,7 @@ fn damaged_heads() {
     let mut random = Random::new(4);
     let mut read_again = 0;
     for i in 0..20_000 {
-        let mut raw = random.any_ship(i % 9, Edition::Y2003);
+        let mut raw = random.any_ship(i % 9);
         random.flag_at_times(&mut raw);
         let mut bytes = packed_as(random.pick(&Version::ALL), &raw);
         for _ in 0..random.between(1, 2) {

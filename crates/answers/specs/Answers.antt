@@ -9,7 +9,6 @@ use Rattle.mark.specs.declared.Marks.{Marks}
 use Rattle.mark.specs.Summer.{Holds}
 use Rattle.timber.specs.Exact.{HoldsSigned}
 use Rattle.timber.specs.Answer.{Sheet}
-use Rattle.steps.specs.Rules.{Rules}
 use Rattle.steps.specs.Exact.{exact_summer_of}
 use Rattle.steps.specs.Timber.{has_timber, exact_timber_added, exact_timber_taken}
 use Rattle.question.specs.Question.{Reply}
@@ -37,12 +36,12 @@ from_sheet a = record {
   ltf = a.timber.ltf;
 }
 
--- by the rules r of an edition, where marks are given, S is never below the exact value, and less than 1.1 mm above it; and so is LS where it is asked for and the ship has it
-abbrev pub Bounded : Rules → MarksAnswer → Ship → Type 0
-Bounded r a x =
+-- where marks are given, S is never below the exact value, and less than 1.1 mm above it; and so is LS where it is asked for and the ship has it
+abbrev pub Bounded : MarksAnswer → Ship → Type 0
+Bounded a x =
     a.verdict.number ≡ 0
-    → Holds (nat_abs a.s) (exact_summer_of r x)
-    × (x.timber ≡ true → has_timber r x ≡ true → HoldsSigned a.ls (exact_timber_added r x) (exact_timber_taken r x))
+    → Holds (nat_abs a.s) (exact_summer_of x)
+    × (x.timber ≡ true → has_timber x ≡ true → HoldsSigned a.ls (exact_timber_added x) (exact_timber_taken x))
 
 -- marks that a signed number holds with ease
 pub record Small (m : Marks) : Type 0 where

@@ -4,16 +4,14 @@ use mathlib.Core.Path.{◌≡◌}
 use mathlib.Core.Logic.{◌⊎◌, inl, inr}
 use native.Mathlib.Omega.{arith}
 use native.Mathlib.Nat.{mul-zero, zero-mul}
-use Rattle.whole.specs.Frac.{Frac, ◌≤f◌, ◌+f◌, ◌*f◌, ◌-f◌, whole, frac, ceil, floor}
+use Rattle.whole.specs.Frac.{◌≤f◌, ◌+f◌, ◌*f◌, ◌-f◌, whole, frac, ceil, floor}
 use Rattle.whole.specs.Round.{Within, Below}
 use Rattle.whole.proofs.Divide.{mul_most}
 use Rattle.whole.proofs.Frac.{bot_of, trans≤, same, sym≈, sub_le}
 use Rattle.whole.proofs.Round.{loosen, exactly, sum, below_sum, less, near_mult, by_ceil, by_floor, near_ceil, near_floor, millionths_up, millionths_down, ceil_zero, floor_zero}
-use Rattle.whole.proofs.Signed.{Cost, one_nought, one_side}
+use Rattle.whole.proofs.Signed.{one_nought, one_side}
 use Rattle.units.specs.Datum.{lift}
-use Rattle.edition.specs.declared.Edition.{Edition}
-use Rattle.edition.specs.declared.Edition.TheVariants.{Of2003, Of1966}
-use Rattle.bow.specs.Bow.{exact_b1, rises, falls, exact_b2_above, exact_b2_below, b2_above, b2_below, higher, lower, exact_older, older, asked_above, asked_below, exact_asked_above, exact_asked_below, sheer_taken, forecastle_taken, bow_freeboard, exact_bow}
+use Rattle.bow.specs.Bow.{exact_b1, rises, falls, exact_b2_above, exact_b2_below, b2_above, b2_below, higher, lower, sheer_taken, forecastle_taken, bow_freeboard, exact_bow}
 use Rattle.bow.proofs.Cubic.{cubic, cubic_most}
 use Rattle.bow.proofs.Words.{b1_words}
 
@@ -66,17 +64,11 @@ module _ (L M cb cwf : ℕ) (h : 1000 ≤ M) (k : L ≤ 365000) (b : cb ≤ 1200
             )
       ]
 
--- ---- what 39(1) asks for, in either edition: above and below cost at most 13 um together
-pub asked_cost : (edition : Edition) (L M cb cwf : ℕ) → 1000 ≤ M → L ≤ 365000 → cb ≤ 12000 → cwf ≤ 10000
-    → Cost (asked_above edition L M cb cwf) (exact_asked_above edition L M cb cwf) (asked_below edition L M cb cwf) (exact_asked_below edition L M cb cwf) (whole 13)
-unfolding older
-asked_cost Of2003 L M cb cwf h k b g = one_side (higher_within L M cb cwf h k b g) (lower_below L M cb cwf h k b g) (one_product L M cb cwf h k b g)
-asked_cost Of1966 L M cb cwf h k b g = record { up = whole 1; down = whole 0; plus = by_ceil (exact_older L cb); minus = exactly 0; both = omega arith }
-
--- The bow's freeboard is never below the exact one, and no further above it than the height
-pub bow_within : {above below : ℕ} {x y s : Frac} → Cost above x below y s → (L sixth fp l height : ℕ)
-    → Within (bow_freeboard above below L sixth fp l height) (exact_bow x y L sixth fp l height) s
+-- The bow's freeboard is never below the exact one, and at most 13 um above
+pub bow_within : (L M cb cwf sixth fp l height : ℕ) → 1000 ≤ M → L ≤ 365000 → cb ≤ 12000 → cwf ≤ 10000
+    → Within (bow_freeboard L M cb cwf sixth fp l height) (exact_bow L M cb cwf sixth fp l height) (whole 13)
 unfolding bow_freeboard exact_bow
-bow_within c L sixth fp l height =
+bow_within L M cb cwf sixth fp l height h k b g =
+    let c = one_side (higher_within L M cb cwf h k b g) (lower_below L M cb cwf h k b g) (one_product L M cb cwf h k b g) in
     loosen (trans≤ {y = c.up +f c.down} (omega arith) c.both)
     (less (sum c.plus (exactly (sheer_taken sixth lift))) (below_sum c.minus (exactly (sheer_taken sixth fp + forecastle_taken L l height))))

@@ -1,16 +1,14 @@
 -- The numbers that code computes for b1 and the two sides of b2 are the regulation's fractions.
-use Prim.Native.Nat.{ℕ, ◌+◌, ◌*◌, ◌-◌, ◌/◌, ◌≤◌, ◌<◌, max}
+use Prim.Native.Nat.{ℕ, ◌+◌, ◌*◌, ◌-◌, ◌/◌, ◌<◌}
 use native.Mathlib.Omega.{arith}
 use mathlib.Core.Path.{◌≡◌}
-use borrow.Author.Tests.{lt-ltb, le-ltb}
-use Rattle.whole.specs.Pick.{pick}
 use Rattle.whole.specs.Divide.{ceil_div}
-use Rattle.whole.specs.Frac.{Frac, ◌≈f◌, ◌+f◌, ◌*f◌, ◌-f◌, ◌÷f◌, whole, frac}
+use Rattle.whole.specs.Frac.{Frac, ◌≈f◌, ◌+f◌, ◌*f◌, ◌-f◌, whole, frac}
 use Rattle.whole.proofs.Divide.{sub_mul}
 use Rattle.whole.proofs.Frac.{bot_of, refl≈, sym≈, trans≈, *_same, sub_same, factor_out, scaled}
 use Rattle.whole.proofs.Round.{ceil_of, floor_of}
 use Rattle.bow.proofs.Cubic.{cubic}
-use Rattle.bow.specs.Bow.{hundreds, exact_b1, rises, falls, exact_b2_above, exact_b2_below, b2_above, b2_below, exact_older, older}
+use Rattle.bow.specs.Bow.{hundreds, exact_b1, rises, falls, exact_b2_above, exact_b2_below, b2_above, b2_below}
 
 -- the cubic of a fraction, its factor taken out
 taken_out : (x : Frac) → whole 6075 *f x +f whole 200 *f x *f x *f x -f whole 1875 *f x *f x ≈f x *f (whole 6075 +f whole 200 *f x *f x -f whole 1875 *f x)
@@ -56,24 +54,3 @@ module _ (L M cb cwf r f : ℕ) (p : 0 < M) (h : frac r (170 * M) ≈f rises cb 
   below_quotient =
       floor_of (f - r) (170 * M) {x = (falls L M cwf -f rises cb) *f whole 1000000} (omega arith)
       (scaled (falls L M cwf) (rises cb) f r (170 * M) (whole 1000000) (omega arith) k h)
-
--- ---- the height of 1966, on both sides of 250 m
-pub older_to_250 : (L cb : ℕ) → L < 250000 → ceil_div (952 * L * (500000 - L)) (625 * (max cb 6800 + 6800)) ≡ older L cb
-unfolding older exact_older pick
-older_to_250 L cb h =
-    let m = max cb 6800 in
-    let c = frac 136 100 ÷f (frac m 10000 +f frac 68 100) in
-    let d : frac (500000 - L) 500000 ≈f whole 1 -f frac L 500000 = record { eq = omega arith } in
-    simp (lt-ltb L 250000 h)
-    (ceil_of (952 * L * (500000 - L)) (625 * (m + 6800)) {x = whole 56 *f whole L *f (whole 1 -f frac L 500000) *f c} (omega arith)
-    (trans≈ {y = whole 56 *f whole L *f frac (500000 - L) 500000 *f c}
-    (record { eq = rw (bot_of (625 * (m + 6800)) (omega arith), bot_of (100 * (m * 100 + 680000)) (omega arith)) (omega arith) })
-    (*_same (*_same (refl≈ (whole 56 *f whole L)) d) (refl≈ c))))
-
-pub older_from_250 : (L cb : ℕ) → 250000 ≤ L → ceil_div 95200000000 (max cb 6800 + 6800) ≡ older L cb
-unfolding older exact_older pick
-older_from_250 L cb h =
-    let m = max cb 6800 in
-    simp (le-ltb L 250000 h)
-    (ceil_of 95200000000 (m + 6800) {x = whole 7000000 *f (frac 136 100 ÷f (frac m 10000 +f frac 68 100))} (omega arith)
-    (record { eq = rw (bot_of (m + 6800) (omega arith), bot_of (100 * (m * 100 + 680000)) (omega arith)) (omega arith) }))

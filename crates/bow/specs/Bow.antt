@@ -1,13 +1,11 @@
 -- Bow height (regulation 39): the freeboard that it asks for, in um; L and M in mm, Cb and Cwf in 1/10000.
--- 2003's b2 may be below zero, and so may the height: each has two parts, differences that stop at zero, of which one is always 0.
-use Rattle.std.specs.Prelude.{ℕ, ◌+◌, ◌*◌, ◌-◌, max, leb, ltb}
+-- b2 may be below zero, and so may the height: each has two parts, differences that stop at zero, of which one is always 0.
+use Rattle.std.specs.Prelude.{ℕ, ◌+◌, ◌*◌, ◌-◌, leb, ltb}
 use Rattle.whole.specs.Pick.{pick}
-use Rattle.whole.specs.Frac.{Frac, ◌+f◌, ◌*f◌, ◌-f◌, ◌÷f◌, whole, frac, ceil, floor}
+use Rattle.whole.specs.Frac.{Frac, ◌+f◌, ◌*f◌, ◌-f◌, whole, frac, ceil, floor}
 use Rattle.units.specs.Datum.{lift}
-use Rattle.edition.specs.declared.Edition.{Edition}
-use Rattle.edition.specs.declared.Edition.TheVariants.{Of2003, Of1966}
 
--- ---- 39(1), 2003: with x = L/100, L in metres
+-- ---- 39(1): with x = L/100, L in metres
 unfoldable pub hundreds : ℕ → Frac
 hundreds L = frac L 100000
 
@@ -43,34 +41,7 @@ higher L M cb cwf = ceil (whole (ceil (exact_b1 L)) *f frac (b2_above L M cb cwf
 unfoldable pub lower : ℕ → ℕ → ℕ → ℕ → ℕ
 lower L M cb cwf = floor (whole (floor (exact_b1 L)) *f frac (b2_below L M cb cwf) 1000000)
 
--- ---- 39(1), 1966: 56 L (1 - L/500) 1.36/(Cb + 0.68) mm, L in metres; from 250 m 7000 1.36/(Cb + 0.68). A Cb under 0.68 counts as 0.68
-unfoldable pub exact_older : ℕ → ℕ → Frac
-exact_older L cb =
-    pick (ltb L 250000) (whole 56 *f whole L *f (whole 1 -f frac L 500000)) (whole 7000000)
-    *f (frac 136 100 ÷f (frac (max cb 6800) 10000 +f frac 68 100))
-
--- up
-unfoldable pub older : ℕ → ℕ → ℕ
-older L cb = ceil (exact_older L cb)
-
--- ---- 39(1), by the edition: what the height has above zero, and below
-abbrev pub asked_above : Edition → ℕ → ℕ → ℕ → ℕ → ℕ
-asked_above Of2003 L M cb cwf = higher L M cb cwf
-asked_above Of1966 L M cb cwf = older L cb
-
-abbrev pub asked_below : Edition → ℕ → ℕ → ℕ → ℕ → ℕ
-asked_below Of2003 L M cb cwf = lower L M cb cwf
-asked_below Of1966 L M cb cwf = 0
-
-abbrev pub exact_asked_above : Edition → ℕ → ℕ → ℕ → ℕ → Frac
-exact_asked_above Of2003 L M cb cwf = exact_b1 L *f exact_b2_above L M cb cwf
-exact_asked_above Of1966 L M cb cwf = exact_older L cb
-
-abbrev pub exact_asked_below : Edition → ℕ → ℕ → ℕ → ℕ → Frac
-exact_asked_below Of2003 L M cb cwf = exact_b1 L *f exact_b2_below L M cb cwf
-exact_asked_below Of1966 L M cb cwf = whole 0
-
--- ---- 39(2), both editions: from it take the sheer at FP, signed, if the ordinate at L/6 from FP is above zero. An ordinate has `lift` added to it: by the same test, that is
+-- ---- 39(2): from it take the sheer at FP, signed, if the ordinate at L/6 from FP is above zero. An ordinate has `lift` added to it: by the same test, that is
 -- given back
 unfoldable pub sheer_taken : ℕ → ℕ → ℕ
 sheer_taken sixth fp = pick (ltb lift sixth) (1000 * fp) 0
@@ -79,9 +50,12 @@ sheer_taken sixth fp = pick (ltb lift sixth) (1000 * fp) 0
 unfoldable pub forecastle_taken : ℕ → ℕ → ℕ → ℕ
 forecastle_taken L l height = pick (leb (7 * L) (100 * l)) (1000 * height) 0
 
--- One difference, at the end, of a height as it is asked for. A freeboard below zero counts as 0: the summer mark's floor stands above it
-unfoldable pub bow_freeboard : ℕ → ℕ → ℕ → ℕ → ℕ → ℕ → ℕ → ℕ
-bow_freeboard above below L sixth fp l height = above + sheer_taken sixth lift - (below + (sheer_taken sixth fp + forecastle_taken L l height))
+-- One difference, at the end. A freeboard below zero counts as 0: the summer mark's floor stands above it
+unfoldable pub bow_freeboard : ℕ → ℕ → ℕ → ℕ → ℕ → ℕ → ℕ → ℕ → ℕ
+bow_freeboard L M cb cwf sixth fp l height =
+    higher L M cb cwf + sheer_taken sixth lift - (lower L M cb cwf + (sheer_taken sixth fp + forecastle_taken L l height))
 
-unfoldable pub exact_bow : Frac → Frac → ℕ → ℕ → ℕ → ℕ → ℕ → Frac
-exact_bow above below L sixth fp l height = above +f whole (sheer_taken sixth lift) -f (below +f whole (sheer_taken sixth fp + forecastle_taken L l height))
+unfoldable pub exact_bow : ℕ → ℕ → ℕ → ℕ → ℕ → ℕ → ℕ → ℕ → Frac
+exact_bow L M cb cwf sixth fp l height =
+    exact_b1 L *f exact_b2_above L M cb cwf +f whole (sheer_taken sixth lift)
+    -f (exact_b1 L *f exact_b2_below L M cb cwf +f whole (sheer_taken sixth fp + forecastle_taken L l height))

@@ -4,9 +4,8 @@
 ghost use Rattle.std.specs.Prelude.{◌≡◌, ◌+◌, ◌-◌, ◌*◌, ◌^◌, ◌≤◌, ◌<◌};
 ghost use Rattle.whole.specs.Frac.{◌≈f◌, ◌*f◌, whole, frac};
 ghost use Rattle.units.specs.Datum.{lift};
-ghost use Rattle.bow.specs.Bow.{exact_b1, rises, falls, higher, lower, older, asked_above, asked_below, sheer_taken, forecastle_taken};
+ghost use Rattle.bow.specs.Bow.{exact_b1, rises, falls, higher, lower, sheer_taken, forecastle_taken};
 
-use edition::Edition;
 use units::{Freeboard, LIFT, Ordinate, Span};
 
 // b1 in 5000000000ths of a um: so it is whole.
@@ -40,7 +39,7 @@ fn fall(l: Span, m: Span, cwf: u64) -> u64
     17 * depth * (1603 * cwf) + 2580000 * length
 }
 
-// The height that 39(1) of 2003 asks for, and 0 where b2 is below zero.
+// The height that 39(1) asks for, and 0 where b2 is below zero.
 fn up(l: Span, m: Span, cb: u64, cwf: u64) -> Freeboard
     requires { (l.0 ≤ 365000) × (1000 ≤ m.0) × (m.0 ≤ 60000) × (cb ≤ 12000) × (cwf ≤ 10000) }
     ensures result_value { result.0 ≡ higher l.0 m.0 cb cwf }
@@ -62,20 +61,6 @@ fn down(l: Span, m: Span, cb: u64, cwf: u64) -> Freeboard
     let b1 = cubic_of(l) / 5000000000;
     let b2 = whole::less(fall(l, m, cwf), rise(m, cb)) / (170 * depth);
     Freeboard(b1 * b2 / 1000000)
-}
-
-// The height that 39(1) of 1966 asks for.
-fn older_height(l: Span, cb: u64) -> Freeboard
-    requires { (l.0 ≤ 365000) × (cb ≤ 12000) }
-    ensures result_value { result.0 ≡ older l.0 cb }
-    ensures result_bound { result.0 ≤ 2 ^ 48 }
-{
-    let length = l.0;
-    let c = whole::greater(cb, 6800) + 6800;
-    if length < 250000 {
-        return Freeboard(whole::mul_div_up(952 * length, 500000 - length, 625 * c));
-    }
-    Freeboard(whole::div_up(95200000000, c))
 }
 
 // An ordinate at FP as a freeboard, if the ordinate at L/6 from FP is above zero; else 0. It is asked for twice: for the sheer at FP, which is taken with
@@ -106,43 +91,21 @@ fn forecastle_taken(l: Span, length: Span, height: Span) -> Freeboard
     Freeboard(0)
 }
 
-// A height that the bow must have: what adds to it and what takes from it. Where sheer is taken, both have LIFT in them.
+// The height that the bow must have, less the sheer at FP: what adds to it and what takes from it. Where sheer is taken, both have LIFT in them.
 #[derive(Clone, Copy)]
 pub struct Height {
     pub above: Freeboard,
     pub below: Freeboard,
 }
 
-// 39(1), by the edition: on L, M, a Cb that counts and Cwf, both in ten thousandths.
-pub fn asked(edition: Edition, l: Span, m: Span, cb: u64, cwf: u64) -> Height
-    requires { (l.0 ≤ 365000) × (1000 ≤ m.0) × (m.0 ≤ 60000) × (cb ≤ 12000) × (cwf ≤ 10000) }
-    ensures above_value { (result.above.0 ≡ asked_above edition l.0 m.0 cb cwf) × (result.below.0 ≡ asked_below edition l.0 m.0 cb cwf) }
-    ensures above_bound { (result.above.0 ≤ 2 ^ 48) × (result.below.0 ≤ 2 ^ 48) }
-{
-    match edition {
-        Edition::Of2003 => {
-            let above = up(l, m, cb, cwf);
-            let below = down(l, m, cb, cwf);
-            Height { above, below }
-        }
-        Edition::Of1966 => {
-            let above = older_height(l, cb);
-            Height {
-                above,
-                below: Freeboard(0),
-            }
-        }
-    }
-}
-
-// 39(2)'s sheer, by the ordinates at L/6 from FP and at FP.
-pub fn less_sheer(h: Height, sixth: Ordinate, fp: Ordinate) -> Height
-    requires { (h.above.0 ≤ 2 ^ 48) × (h.below.0 ≤ 2 ^ 48) × (fp.0 < lift + lift) }
-    ensures above_value { (result.above.0 ≡ h.above.0 + sheer_taken sixth.0 lift) × (result.below.0 ≡ h.below.0 + sheer_taken sixth.0 fp.0) }
+// 39(1), and 39(2)'s sheer: on L, M, a Cb that counts and Cwf, both in ten thousandths, and the ordinates at L/6 from FP and at FP.
+pub fn asked(l: Span, m: Span, cb: u64, cwf: u64, sixth: Ordinate, fp: Ordinate) -> Height
+    requires { (l.0 ≤ 365000) × (1000 ≤ m.0) × (m.0 ≤ 60000) × (cb ≤ 12000) × (cwf ≤ 10000) × (fp.0 < lift + lift) }
+    ensures above_value { (result.above.0 ≡ higher l.0 m.0 cb cwf + sheer_taken sixth.0 lift) × (result.below.0 ≡ lower l.0 m.0 cb cwf + sheer_taken sixth.0 fp.0) }
     ensures above_bound { (result.above.0 ≤ 2 ^ 49) × (result.below.0 ≤ 2 ^ 49) }
 {
-    let above = units::sum(h.above, sheer_taken(sixth, Ordinate(LIFT)));
-    let below = units::sum(h.below, sheer_taken(sixth, fp));
+    let above = units::sum(up(l, m, cb, cwf), sheer_taken(sixth, Ordinate(LIFT)));
+    let below = units::sum(down(l, m, cb, cwf), sheer_taken(sixth, fp));
     Height { above, below }
 }
 

@@ -2,13 +2,10 @@
 use Rattle.std.specs.Prelude.{ℕ, ◌+◌, min, ltb}
 use Rattle.whole.specs.Pick.{pick}
 use Rattle.whole.specs.Frac.{Frac, ◌*f◌, whole, frac, ceil}
-use Rattle.edition.specs.declared.Edition.{Edition}
-use Rattle.edition.specs.declared.Edition.TheVariants.{Of2003, Of1966}
 
--- the Cb that counts, here and in 39, which each take it: in the edition of 2003 one above 1.0 counts as 1.0
-abbrev pub counted : Edition → ℕ → ℕ
-counted Of2003 cb = min cb 10000
-counted Of1966 cb = cb
+-- Cb above 1.0 counts as 1.0, here and in 39: each takes a Cb that counts
+abbrev pub counted : ℕ → ℕ
+counted cb = min cb 10000
 
 -- if Cb > 0.68, the sum so far times (Cb + 0.68) / 1.36
 unfoldable pub exact_fullness : ℕ → Frac → Frac

@@ -2,20 +2,15 @@
 ghost use Rattle.std.specs.Prelude.{◌≡◌, ◌*◌, ◌^◌, ◌≤◌};
 ghost use Rattle.corrections.specs.Fullness30.{counted, fullness};
 
-use edition::Edition;
 use units::Freeboard;
 use whole::{lesser, mul_div_up};
 
-// The block coefficient as it counts, in 1/10000: only the edition of 2003 has a greatest.
-pub fn counted_block(edition: Edition, cb: u64) -> u64
-    requires { cb ≤ 12000 }
-    ensures value { result ≡ counted edition cb }
-    ensures upper_bound { result ≤ 12000 }
+// The block coefficient as it counts, in 1/10000.
+pub fn counted_block(cb: u64) -> u64
+    ensures value { result ≡ counted cb }
+    ensures upper_bound { result ≤ 10000 }
 {
-    match edition {
-        Edition::Of2003 => lesser(cb, 10000),
-        Edition::Of1966 => cb,
-    }
+    lesser(cb, 10000)
 }
 
 // The sum so far, for a Cb that counts.

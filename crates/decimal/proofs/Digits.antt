@@ -10,14 +10,14 @@ use borrow.Author.Tests.{le-leb, lt-leb, ltb-false}
 use native.Mathlib.Numerals.{add-one}
 use native.Mathlib.Omega.{arith}
 use Rattle.whole.specs.Pick.{pick}
-use Rattle.ship.proofs.Lines.{or-false}
+use Rattle.ship.proofs.Lines.{or_false}
 use Rattle.decimal.specs.declared.Parsed.TheVariants.{Number, Bad}
 use Rattle.decimal.specs.Decimal.{no_digit, number_from, parsed}
 
 -- a digit's byte
 pub digit : (b : ℕ) → no_digit b ≡ false → (48 ≤ b) × (b ≤ 57)
 digit b e =
-    let o = or-false (ltb b 48) (ltb 57 b) e in
+    let o = or_false (ltb b 48) (ltb 57 b) e in
     (ltb-false b 48 o.0, ltb-false 57 b o.1)
 
 -- some bytes, and none

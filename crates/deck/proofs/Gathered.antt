@@ -23,11 +23,11 @@ use Rattle.houses.proofs.Midship.{reach_most}
 use Rattle.effective.specs.Unrounded.{low_height, lesser_of, ratio_of, FairBreadths, top_of, bottom_of}
 use Rattle.effective.proofs.Unrounded.{fair_ratio, bottom_full, fair_unrounded}
 use Rattle.summed.proofs.Sums.{summed_with_lem, effective_summed, summed_over, fair_of, good_fair, fair_summed}
-use Rattle.deck.specs.Deck.{as_forecastle, bridges_of, deck_of, deck_with, FairDeck}
+use Rattle.deck.specs.Deck.{as_forecastle, deck_of, deck_with, FairDeck}
 
 -- a house set before the others
 pub deck_with_lem : (l : ℕ) (h : House) (hs : List House) → deck_with l h (deck_of l hs) ≡ deck_of l (h ∷ hs)
-unfolding deck_with deck_of bridges_of covered_length reach total forecastle_of amidships_of house_that
+unfolding deck_with deck_of covered_length reach total forecastle_of amidships_of house_that
 deck_with_lem l h hs =
     let forecastle = pick_of (as_forecastle l) (is_forecastle l h) h (house_that (is_forecastle l) hs) in
     let amidships = pick_of (ratio_of l) (covers_amidships l h) h (house_that (covers_amidships l) hs) in
@@ -37,7 +37,6 @@ deck_with_lem l h hs =
       reach = total (reach_of l) (h ∷ hs);
       forecastle = forecastle i;
       amidships = amidships i;
-      bridges = bridges_of l (h ∷ hs);
     }
 
 -- the forecastle is no broader than the ship

@@ -1,46 +1,20 @@
 -- What the houses of a list give to the steps, gathered; and how one more house before the others changes it. Each amount is the definition of 33 to 35, of
--- 31's house amidships or of 38's cover that the steps name, E by its sums; `bridge_same` says that the bridges give 37's: nobody needs to believe this page.
-use Rattle.std.specs.Prelude.{ℕ, ◌+◌, ◌*◌, ◌≤◌, max, Bool, not, ◌&&◌, List, [], ◌∷◌, ◌≡◌, eqb, ltb}
+-- 31's house amidships or of 38's cover that the steps name, E by its sums: nobody needs to believe this page.
+use Rattle.std.specs.Prelude.{ℕ, ◌+◌, ◌*◌, ◌≤◌, Bool, List, ◌≡◌}
 use Rattle.whole.specs.Pick.{pick}
-use Rattle.units.specs.Datum.{station_of}
-use Rattle.units.specs.declared.Unrounded.{Unrounded}
 use Rattle.ship.specs.declared.House.{House}
 use Rattle.houses.specs.Length.{part_of, covered_length}
 use Rattle.houses.specs.Forecastle.{is_forecastle, forecastle_of}
 use Rattle.houses.specs.Cover.{reach_of, reach}
 use Rattle.houses.specs.Amidships.{covers_amidships, amidships_of}
 use Rattle.effective.specs.Unrounded.{low_height, ratio_of, FairRatio, unrounded_of, FairLength}
-use Rattle.summed.specs.Summed.{down, summed_of, bottom_in, summed_with, effective_on, FairSummed}
-use Rattle.deck.specs.declared.Bridges.{Bridges}
+use Rattle.summed.specs.Summed.{summed_of, bottom_in, summed_with, effective_on, FairSummed}
 use Rattle.deck.specs.declared.Deck.{Deck}
 use Rattle.deck.specs.declared.Forecastle.{Forecastle}
 
 -- of the house that is the forecastle
 abbrev pub as_forecastle : ℕ → House → Forecastle
 as_forecastle l h = record { effective = unrounded_of l h; part = record { 0 = part_of l h }; height = h.height }
-
--- an enclosed house's effective length, down, if it can be a bridge; `meets` where another begins at its fore end
-abbrev pub bridge_alone : ℕ → House → Bool → Unrounded → ℕ
-bridge_alone l h meets own = pick (ltb (station_of 0) h.aft.0 && ltb h.fore.0 (station_of l) && not meets) (down own) 0
-
--- the longest of the bridges that a house which ends there leaves
-abbrev pub left_by : ℕ → Bridges → ℕ
-left_by fore b = pick (eqb fore b.first.0) b.apart.0 b.all.0
-
-unfoldable pub bridges_with : ℕ → House → Bridges → Bridges
-bridges_with l h b =
-    let left = left_by h.fore.0 b in
-    pick h.enclosed
-    (record {
-      first = h.aft;
-      apart = record { 0 = left };
-      all = record { 0 = max (bridge_alone l h (eqb h.fore.0 b.first.0) (unrounded_of l h)) left };
-    })
-    b
-
-unfoldable pub bridges_of : ℕ → List House → Bridges
-bridges_of l [] = record { first = record { 0 = 0 }; apart = record { 0 = 0 }; all = record { 0 = 0 } }
-bridges_of l (h ∷ hs) = bridges_with l h (bridges_of l hs)
 
 unfoldable pub deck_of : ℕ → List House → Deck
 deck_of l hs = record {
@@ -49,7 +23,6 @@ deck_of l hs = record {
   reach = reach l hs;
   forecastle = as_forecastle l (forecastle_of l hs);
   amidships = ratio_of l (amidships_of l hs);
-  bridges = bridges_of l hs;
 }
 
 -- a deck with one more house before the others
@@ -60,7 +33,6 @@ deck_with l h d = record {
   reach = reach_of l h + d.reach;
   forecastle = pick (is_forecastle l h) (as_forecastle l h) d.forecastle;
   amidships = pick (covers_amidships l h) (ratio_of l h) d.amidships;
-  bridges = bridges_with l h d.bridges;
 }
 
 -- amounts that leave room for what is worked with them

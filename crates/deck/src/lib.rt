@@ -1,17 +1,16 @@
-// What the houses on a deck give to the steps: sums over them (33 to 35, and 38's cover), the forecastle, the house amidships (31), and the detached bridge (37
-// of the 1966 edition).
+// What the houses on a deck give to the steps: sums over them (33 to 35, and 38's cover), the forecastle, and the house amidships (31).
 #![tactic(auto)]
 
 ghost use Rattle.std.specs.Prelude.{◌≡◌, [], ◌≤◌, take};
 ghost use Rattle.whole.specs.Pick.{pick};
 ghost use Rattle.ship.specs.Good.{GoodHouse, GoodHouses};
 ghost use Rattle.houses.specs.Amidships.{covers_amidships};
-ghost use Rattle.effective.specs.Unrounded.{ratio_of, unrounded_of, FairLength};
-ghost use Rattle.deck.specs.Deck.{bridge_alone, bridges_with, deck_of, deck_with, FairDeck};
+ghost use Rattle.effective.specs.Unrounded.{ratio_of};
+ghost use Rattle.deck.specs.Deck.{deck_of, deck_with, FairDeck};
 
 use ship::House;
 use summed::Summed;
-use units::{Effective, Ratio, Span, Station, Unrounded};
+use units::{Ratio, Span, Unrounded};
 
 // Of the forecastle: its effective length, l and its height, all 0 where there is none.
 #[derive(Clone, Copy)]
@@ -21,17 +20,8 @@ pub struct Forecastle {
     pub height: Span,
 }
 
-// Of detached bridges: the aft end of the aftmost enclosed house, the station 0, where no house ends, if there is none; the greatest effective length of the
-// bridges without that house, which is what counts if a house that is set abaft touches it; and of all of them.
-#[derive(Clone, Copy)]
-pub struct Bridges {
-    pub first: Station,
-    pub apart: Effective,
-    pub all: Effective,
-}
-
-// S, the sums of the effective lengths, the cover's reach in tenths of a millimetre, the forecastle, the ratio of heights of the house amidships, 0 where
-// there is none, and the bridges.
+// S, the sums of the effective lengths, the cover's reach in tenths of a millimetre, the forecastle, and the ratio of heights of the house amidships, 0 where
+// there is none.
 #[derive(Clone, Copy)]
 pub struct Deck {
     pub s: Span,
@@ -39,7 +29,6 @@ pub struct Deck {
     pub reach: u64,
     pub forecastle: Forecastle,
     pub amidships: Ratio,
-    pub bridges: Bridges,
 }
 
 // The ratio of heights of the house amidships, with one more house before the others: its own, or the others'.
@@ -55,39 +44,6 @@ fn amidships_with(l: Span, h: House, own: Ratio, others: Ratio) -> Ratio
     others
 }
 
-// A house's effective length, down, where it can be a bridge: it stands before AP and abaft FP and meets no enclosed house forward of it. Else 0, and nothing is
-// divided.
-fn bridge_alone(l: Span, h: House, meets: bool, own: Unrounded) -> Effective
-    requires { (l.0 ≤ 365000) × FairLength own }
-    ensures { result.0 ≡ bridge_alone l.0 h meets own }
-{
-    let ap = units::forward_of_ap(Span(0));
-    let fp = units::forward_of_ap(l);
-    if units::is_abaft(ap, h.aft) & units::is_abaft(h.fore, fp) & !meets {
-        return summed::rounded(own);
-    }
-    Effective(0)
-}
-
-// The bridges with one more house before the others, of that effective length. An open house touches nothing and is no bridge.
-fn bridges_with(l: Span, h: House, own: Unrounded, b: Bridges) -> Bridges
-    requires { (l.0 ≤ 365000) × FairLength own × (own ≡ unrounded_of l.0 h) }
-    ensures { result ≡ bridges_with l.0 h b }
-{
-    if !h.enclosed {
-        return b;
-    }
-    let meets = units::is_at(h.fore, b.first);
-    let kept = if meets { b.apart.0 } else { b.all.0 };
-    let alone = bridge_alone(l, h, meets, own);
-    let aft = h.aft;
-    Bridges {
-        first: aft,
-        apart: Effective(kept),
-        all: Effective(whole::greater(alone.0, kept)),
-    }
-}
-
 // A deck with one more house before the others, of that ratio of heights.
 pub fn with_house(l: Span, h: House, ratio: Ratio, d: Deck) -> Deck
     requires { (l.0 ≤ 365000) × GoodHouse l.0 h × (ratio ≡ ratio_of l.0 h) × FairDeck l.0 d }
@@ -99,7 +55,6 @@ pub fn with_house(l: Span, h: House, ratio: Ratio, d: Deck) -> Deck
     let effective = summed::with_one(h, own, d.effective);
     let reach = houses::reach_of(l, h) + d.reach;
     let amidships = amidships_with(l, h, ratio, d.amidships);
-    let bridges = bridges_with(l, h, own, d.bridges);
     let mut forecastle = d.forecastle;
     if houses::is_forecastle(l, h) {
         let height = h.height;
@@ -115,7 +70,6 @@ pub fn with_house(l: Span, h: House, ratio: Ratio, d: Deck) -> Deck
         reach,
         forecastle,
         amidships,
-        bridges,
     }
 }
 
@@ -134,18 +88,12 @@ fn bare_deck(l: Span) -> Deck
         top: 0,
         bottom: nothing.bottom,
     };
-    let bridges = Bridges {
-        first: Station(0),
-        apart: Effective(0),
-        all: Effective(0),
-    };
     Deck {
         s: Span(0),
         effective,
         reach: 0,
         forecastle,
         amidships,
-        bridges,
     }
 }
 

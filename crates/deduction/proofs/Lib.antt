@@ -1,4 +1,2 @@
 pub mod Deduction37
-pub mod Bridge37
-pub mod Forecastle37
-pub mod Computed37
+pub mod Rows

@@ -1,1 +1,2 @@
 pub mod Deduction37
+pub mod Tenth37

@@ -1,19 +1,17 @@
-// Regulation 37: what the houses deduct, by the row or the two rows of percentages that the caller names.
+// Regulation 37: what the houses deduct. The row of percentages is the caller's: it hands over two neighbours of it.
 #![tactic(auto)]
 
 ghost use Rattle.std.specs.Prelude.{◌≡◌, ◌*◌, ◌≤◌, ◌^◌};
-ghost use Rattle.whole.specs.Frac.{◌≈f◌, whole, frac, floor};
-ghost use Rattle.whole.specs.Row.{height};
-ghost use Rattle.percentages.specs.Table37.{entries};
-ghost use Rattle.deduction.specs.Deduction37.{full, of_full, bridge_part, exact_share_by, all_or_nothing, fewer_points, granted, millionths, deducted};
+ghost use Rattle.whole.specs.Frac.{frac};
+ghost use Rattle.whole.specs.Pick.{pick};
+ghost use Rattle.deduction.specs.Deduction37.{full, of_full, lacks_forecastle};
+ghost use Rattle.deduction.specs.Tenth37.{tenth, share_from};
 
-use edition::Edition;
-use percentages::{Lines, Row, percentage};
 use units::{Effective, Freeboard, Span, Unrounded, freeboard_of_mm, sum};
-use whole::{less, lesser, mul_div_down, mul_div_up};
+use whole::{lesser, mul_div_down};
 
 // The full amount, for a ship whose houses cover all of its length.
-fn full_amount(length: Span) -> Freeboard
+pub fn full_amount(length: Span) -> Freeboard
     requires { (24000 ≤ length.0) × (length.0 ≤ 365000) }
     ensures result_value { result.0 ≡ full length.0 }
     ensures result_bound { result.0 ≤ 1070000 }
@@ -34,100 +32,32 @@ fn full_amount(length: Span) -> Freeboard
     freeboard_of_mm(1070)
 }
 
-// A row's percentage at E, in tenths of a per cent, times a tenth of L: linear between the entries at the ends of the tenth in which E ends.
-fn height_at(row: Row, length: Span, effective: Effective) -> u64
-    requires { (24000 ≤ length.0) × (length.0 ≤ 365000) × (effective.0 ≤ 1000 * length.0) }
-    ensures value { result ≡ height (entries row) effective.0 (100 * length.0) }
-    ensures upper_bound { result ≤ 100000 * length.0 }
+// The tenth of L in which E ends: the percentages at it and at the next are those that `share` asks for.
+pub fn tenth_of(length: Span, effective: Effective) -> usize
+    requires { (24000 ≤ length.0) × (length.0 ≤ 365000) }
+    ensures value { result ≡ tenth length.0 effective.0 }
+    ensures upper_bound { result ≤ 9 }
+{
+    let l = length.0;
+    let e = effective.0;
+    lesser(e / (100 * l), 9) as usize
+}
+
+// The share of the full amount, in millionths, between the percentages p and q (in tenths of a per cent) at the ends of E's tenth.
+pub fn share(p: u64, q: u64, length: Span, effective: Effective) -> u64
+    requires { (p ≤ q) × (q ≤ 1000) × (24000 ≤ length.0) × (length.0 ≤ 365000) × (effective.0 ≤ 1000 * length.0) }
+    ensures value { result ≡ share_from p q length.0 effective.0 }
+    ensures upper_bound { result ≤ 1000000 }
 {
     let l = length.0;
     let e = effective.0;
     let u = 100 * l;
-    let j = lesser(e / u, 9);
-    let k = j as usize;
-    let p = percentage(row, k);
-    let q = percentage(row, k + 1);
-    p * u + (q - p) * (e - j * u)
-}
-
-// What of 0.2 L counts as bridge: the bridge's effective length, or all of it where the forecastle's is more than 0.4 L. The fraction itself is tested.
-fn counted_bridge(forecastle: Unrounded, bridge: Effective, length: Span) -> u64
-    requires { (1 ≤ forecastle.bottom) × (forecastle.bottom ≤ 2 ^ 35) × (24000 ≤ length.0) × (length.0 ≤ 365000) }
-    ensures frac { frac result (200 * length.0) ≈f bridge_part (frac forecastle.top forecastle.bottom) (whole bridge.0) length.0 }
-    ensures upper_bound { result ≤ 200 * length.0 }
-{
-    let top = forecastle.top;
-    let bottom = forecastle.bottom;
-    let b = bridge.0;
-    let l = length.0;
-    if 400 * l * bottom < top {
-        return 200 * l;
-    }
-    lesser(b, 200 * l)
-}
-
-// The share of the full amount, times 20 000 000 L^2, so that nothing is divided yet; `part` is what of 0.2 L counts as bridge.
-fn share_by(lines: Lines, part: u64, length: Span, effective: Effective) -> u64
-    requires { (part ≤ 200 * length.0) × (24000 ≤ length.0) × (length.0 ≤ 365000) × (effective.0 ≤ 1000 * length.0) }
-    ensures frac { frac result (20000000 * length.0 * length.0) ≈f exact_share_by lines (frac part (200 * length.0)) length.0 (whole effective.0) }
-    ensures upper_bound { result ≤ 20000000 * length.0 * length.0 }
-{
-    let l = length.0;
-    match lines {
-        Lines::One(row) => height_at(row, length, effective) * (200 * l),
-        Lines::Two(without, with) => {
-            let m = height_at(without, length, effective);
-            let n = height_at(with, length, effective);
-            m * (200 * l - part) + n * part
-        }
-    }
-}
-
-// In 2003: of a share times 20 000 000 L^2 its millionths, or none for a ship of type B (`b`) whose forecastle is short, or missing and so of length 0. The
-// fraction itself is tested.
-fn nothing_if_short(b: bool, forecastle: Unrounded, length: Span, share: u64) -> u64
-    requires { (1 ≤ forecastle.bottom) × (forecastle.bottom ≤ 2 ^ 35) × (24000 ≤ length.0) × (length.0 ≤ 365000) }
-    ensures { result ≡ millionths (all_or_nothing b (frac forecastle.top forecastle.bottom) length.0 (frac share (20000000 * length.0 * length.0))) }
-{
-    let top = forecastle.top;
-    let bottom = forecastle.bottom;
-    let l = length.0;
-    if b & (top < 70 * l * bottom) {
-        return 0;
-    }
-    share / (20 * l * l)
-}
-
-// In 1966: its millionths, with fewer points for a short forecastle. The points are rounded up to whole parts of it, and so the share down, and only once.
-fn fewer_if_short(b: bool, forecastle: Unrounded, length: Span, share: u64) -> u64
-    requires { (1 ≤ forecastle.bottom) × (forecastle.bottom ≤ 2 ^ 35) × (24000 ≤ length.0) × (length.0 ≤ 365000) }
-    ensures { result ≡ millionths (fewer_points b (whole (floor (frac forecastle.top forecastle.bottom))) length.0 (frac share (20000000 * length.0 * length.0))) }
-{
-    let top = forecastle.top;
-    let bottom = forecastle.bottom;
-    let l = length.0;
-    let needed = 70 * l; // 0.07 L, in um
-    if b & (top < needed * bottom) {
-        let f = top / bottom;
-        return less(share, mul_div_up(100000 * l, needed - f, 7)) / (20 * l * l);
-    }
-    share / (20 * l * l)
-}
-
-// The share in millionths as an edition grants it.
-fn share_granted(edition: Edition, b: bool, forecastle: Unrounded, length: Span, share: u64) -> u64
-    requires { (1 ≤ forecastle.bottom) × (forecastle.bottom ≤ 2 ^ 35) × (24000 ≤ length.0) × (length.0 ≤ 365000) × (share ≤ 20000000 * length.0 * length.0) }
-    ensures value { result ≡ millionths (granted edition b (frac forecastle.top forecastle.bottom) length.0 (frac share (20000000 * length.0 * length.0))) }
-    ensures upper_bound { result ≤ 1000000 }
-{
-    match edition {
-        Edition::Of2003 => nothing_if_short(b, forecastle, length, share),
-        Edition::Of1966 => fewer_if_short(b, forecastle, length, share),
-    }
+    let j = tenth_of(length, effective) as u64;
+    mul_div_down(p * u + (q - p) * (e - j * u), 1000, u)
 }
 
 // So many millionths of the full amount.
-fn of_full(length: Span, share: u64) -> Freeboard
+pub fn of_full(length: Span, share: u64) -> Freeboard
     requires { (24000 ≤ length.0) × (length.0 ≤ 365000) × (share ≤ 1000000) }
     ensures result_value { result.0 ≡ of_full length.0 share }
     ensures result_bound { result.0 ≤ 1070000 }
@@ -137,22 +67,16 @@ fn of_full(length: Span, share: u64) -> Freeboard
     Freeboard(mul_div_down(n, share, 1000000))
 }
 
-// The deduction, by an edition's rows, of a ship of type B (`b`) or A: with the forecastle's effective length, a detached bridge's and that of all houses, E.
-pub fn deducted(
-    edition: Edition,
-    lines: Lines,
-    b: bool,
-    forecastle: Unrounded,
-    bridge: Effective,
-    length: Span,
-    effective: Effective,
-) -> Freeboard
-    requires { (1 ≤ forecastle.bottom) × (forecastle.bottom ≤ 2 ^ 35) × (24000 ≤ length.0) × (length.0 ≤ 365000) × (effective.0 ≤ 1000 * length.0) }
-    ensures result_value { result.0 ≡ deducted length.0 (granted edition b (frac forecastle.top forecastle.bottom) length.0
-        (exact_share_by lines (bridge_part (frac forecastle.top forecastle.bottom) (whole bridge.0) length.0) length.0 (whole effective.0))) }
-    ensures result_bound { result.0 ≤ 1070000 }
+// The deduction, or none where the ship is of type B (`b`) and its forecastle is short, or missing and so of length 0. The fraction itself is tested.
+pub fn if_granted(b: bool, forecastle: Unrounded, length: Span, deduction: Freeboard) -> Freeboard
+    requires { (1 ≤ forecastle.bottom) × (forecastle.bottom ≤ 2 ^ 35) × (length.0 ≤ 365000) }
+    ensures result_value { result.0 ≡ pick (lacks_forecastle b (frac forecastle.top forecastle.bottom) length.0) 0 deduction.0 }
+    ensures result_le_deduction { result.0 ≤ deduction.0 }
 {
-    let part = counted_bridge(forecastle, bridge, length);
-    let share = share_by(lines, part, length, effective);
-    of_full(length, share_granted(edition, b, forecastle, length, share))
+    let bottom = forecastle.bottom;
+    let l = length.0;
+    if b & (forecastle.top < 70 * l * bottom) {
+        return Freeboard(0);
+    }
+    deduction
 }

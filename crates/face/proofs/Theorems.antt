@@ -21,7 +21,6 @@ use Rattle.record.specs.Reading.{frame_lines, reading_in}
 use Rattle.record.specs.Writing.{bytes_for, write_lines, writing_of, written}
 use Rattle.record.proofs.RoundTrip as RoundTrip
 use Rattle.record.proofs.Theorems.{read_what_was_written, write_what_was_read, written_reads_same}
-use Rattle.steps.specs.Rules.{Rules}
 use Rattle.marks.specs.Marks.{answer_in}
 use Rattle.question.specs.Question.{reply_in}
 use Rattle.flat.specs.declared.FlatShip.{FlatShip}
@@ -127,11 +126,11 @@ module _ (s : List ℕ) (a : ReadAnswer) (e : a ≡ from_reading (reading_in s))
       ∙ ap from_reading (w.1 ∙ sym whole) ∙ sym e
 
 -- ---- one answer
-pub one_marks : (u : Rules) (s : List ℕ) (a b : MarksAnswer) → a ≡ from_sheet (answer_in u s) → b ≡ from_sheet (answer_in u s) → a ≡ b
-one_marks u s a b p q = p ∙ sym q
+pub one_marks : (s : List ℕ) (a b : MarksAnswer) → a ≡ from_sheet (answer_in s) → b ≡ from_sheet (answer_in s) → a ≡ b
+one_marks s a b p q = p ∙ sym q
 
-pub one_poop : (u : Rules) (s : List ℕ) (height wish : ℕ) (a b : PoopAnswer) → a ≡ from_reply (reply_in u s height wish) → b ≡ from_reply (reply_in u s height wish) → a ≡ b
-one_poop u s height wish a b p q = p ∙ sym q
+pub one_poop : (s : List ℕ) (height wish : ℕ) (a b : PoopAnswer) → a ≡ from_reply (reply_in s height wish) → b ≡ from_reply (reply_in s height wish) → a ≡ b
+one_poop s height wish a b p q = p ∙ sym q
 
 pub one_reading : (s : List ℕ) (a b : ReadAnswer) → a ≡ from_reading (reading_in s) → b ≡ from_reading (reading_in s) → a ≡ b
 one_reading s a b p q = p ∙ sym q

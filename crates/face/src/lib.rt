@@ -5,8 +5,6 @@ ghost use Rattle.std.specs.Prelude.{◌≡◌, length};
 ghost use Rattle.record.specs.Layout.{ship_in};
 ghost use Rattle.record.specs.Reading.{reading_in};
 ghost use Rattle.record.specs.Writing.{writing_of, written};
-ghost use Rattle.edition.specs.Edition.{numbered};
-ghost use Rattle.steps.specs.Rules.{rules_of};
 ghost use Rattle.marks.specs.Marks.{answer_in};
 ghost use Rattle.question.specs.Question.{reply_in};
 ghost use Rattle.flat.specs.Flat.{ship_from};
@@ -16,14 +14,13 @@ use answers::{MarksAnswer, PoopAnswer, ReadAnswer, WriteAnswer};
 use flat::FlatShip;
 use timber::Answer;
 
-// The six marks of a ship record by an edition, and six timber marks where it asks for them: refusals 1 to 13, 18 and 22 to 24.
+// The six marks of a ship record, and six timber marks where it asks for them: refusals 1 to 13, 18 and 22 to 24.
 #[unsafe(no_mangle)]
-pub extern "C" fn loadline_marks(bytes: &[u8], edition: u64) -> MarksAnswer
-    ensures equation { result ≡ from_sheet (answer_in (rules_of (numbered edition)) bytes.now) }
-    ensures bounded { Bounded (rules_of (numbered edition)) result (ship_in bytes.now) }
+pub extern "C" fn loadline_marks(bytes: &[u8]) -> MarksAnswer
+    ensures equation { result ≡ from_sheet (answer_in bytes.now) }
+    ensures bounded { Bounded result (ship_in bytes.now) }
 {
-    let named = edition::by_number(edition);
-    let a = marks::of_record(named, bytes);
+    let a = marks::of_record(bytes);
     match a {
         Answer::Given(m) => answers::marked(m, timber::none()),
         Answer::WithTimber(m, t) => answers::marked(m, t),
@@ -31,18 +28,12 @@ pub extern "C" fn loadline_marks(bytes: &[u8], edition: u64) -> MarksAnswer
     }
 }
 
-// The shortest poop of the given height in mm for which S by an edition is at most the wish in mm: refusals 1 to 11, 18 and 22 to 24, then 14, 15 and 16.
+// The shortest poop of the given height in mm for which S is at most the wish in mm: refusals 1 to 11, 18 and 22 to 24, then 14, 15 and 16.
 #[unsafe(no_mangle)]
-pub extern "C" fn loadline_shortest_poop(
-    bytes: &[u8],
-    height: u64,
-    wish: u64,
-    edition: u64,
-) -> PoopAnswer
-    ensures { result ≡ from_reply (reply_in (rules_of (numbered edition)) bytes.now height wish) }
+pub extern "C" fn loadline_shortest_poop(bytes: &[u8], height: u64, wish: u64) -> PoopAnswer
+    ensures { result ≡ from_reply (reply_in bytes.now height wish) }
 {
-    let asked = edition::by_number(edition);
-    let a = poop::of_record(asked, bytes, height, wish);
+    let a = poop::of_record(bytes, height, wish);
     answers::poop_of(a)
 }
 

@@ -18,7 +18,6 @@ use Rattle.houses.specs.Effective as Effective
 use Rattle.houses.specs.Forecastle as Forecastle
 use Rattle.houses.specs.Amidships as Amidships
 use Rattle.houses.specs.Cover as Cover
-use Rattle.houses.specs.Bridge as Bridge
 use Rattle.corrections.specs.Short29 as Short29
 use Rattle.corrections.specs.Fullness30 as Fullness30
 use Rattle.corrections.specs.Depth31 as Depth31
@@ -45,15 +44,15 @@ unfolding Fields.pack Fields.piece Fields.unpack Fields.number Layout.kind_bits 
 Reader = Unit {0}
 
 unfoldable pub Houses : Type 0
-unfolding Length.part_of Length.total Length.covered_length Height.ordinary_height Height.raised_height Height.standard_height Height.height_ratio Effective.limited_length Effective.breadth_ratio Effective.exact_effective Effective.exact_effective_length Effective.those Effective.effective_length Forecastle.house_that Forecastle.is_forecastle Forecastle.forecastle_of Amidships.covers_amidships Amidships.amidships_of Cover.is_amidships Cover.reach_of Cover.reach Bridge.touches Bridge.touched Bridge.is_bridge Bridge.greatest Bridge.exact_bridge Bridge.bridge_length
+unfolding Length.part_of Length.total Length.covered_length Height.ordinary_height Height.raised_height Height.standard_height Height.height_ratio Effective.limited_length Effective.breadth_ratio Effective.exact_effective Effective.exact_effective_length Effective.those Effective.effective_length Forecastle.house_that Forecastle.is_forecastle Forecastle.forecastle_of Amidships.covers_amidships Amidships.amidships_of Cover.is_amidships Cover.reach_of Cover.reach
 Houses = Unit {0}
 
 unfoldable pub Corrections : Type 0
-unfolding Short29.exact_short_b Short29.short_b Fullness30.exact_fullness Fullness30.fullness Depth31.rate Depth31.exact_depth_addition Depth31.depth_addition Depth31.exact_depth_reduction Depth31.depth_reduction Deduction37.exact_full Deduction37.full Deduction37.exact_share Deduction37.bridge_part Deduction37.exact_between Deduction37.exact_share_by Deduction37.lacks_forecastle Deduction37.all_or_nothing Deduction37.millionths Deduction37.of_full Gathered.made_full Gathered.added Deduction37.deducted Sheer.after_sum Sheer.forward_sum Sheer.unit Sheer.standard_after Sheer.standard_forward Sheer.above Sheer.lacks Sheer.after_counts Sheer.forward_share Sheer.mean_above Sheer.mean_lacks Sheer.exact_excess Sheer.exact_deficiency Sheer.excess Sheer.deficiency Sheer.exact_addition Sheer.exact_deduction Sheer.addition Sheer.deduction Sheer.added Sheer.deducted Bow.hundreds Bow.exact_b1 Bow.rises Bow.falls Bow.exact_b2_above Bow.exact_b2_below Bow.b2_above Bow.b2_below Bow.higher Bow.lower Bow.sheer_taken Bow.forecastle_taken Bow.bow_freeboard
+unfolding Short29.exact_short_b Short29.short_b Fullness30.exact_fullness Fullness30.fullness Depth31.rate Depth31.exact_depth_addition Depth31.depth_addition Depth31.exact_depth_reduction Depth31.depth_reduction Deduction37.exact_full Deduction37.full Deduction37.exact_share Deduction37.share Deduction37.of_full Deduction37.deduction Deduction37.lacks_forecastle Gathered.made_full Gathered.added Deduction37.deducted Sheer.after_sum Sheer.forward_sum Sheer.unit Sheer.standard_after Sheer.standard_forward Sheer.above Sheer.lacks Sheer.after_counts Sheer.forward_share Sheer.mean_above Sheer.mean_lacks Sheer.exact_excess Sheer.exact_deficiency Sheer.excess Sheer.deficiency Sheer.exact_addition Sheer.exact_deduction Sheer.addition Sheer.deduction Sheer.added Sheer.deducted Bow.hundreds Bow.exact_b1 Bow.rises Bow.falls Bow.exact_b2_above Bow.exact_b2_below Bow.b2_above Bow.b2_below Bow.higher Bow.lower Bow.sheer_taken Bow.forecastle_taken Bow.bow_freeboard
 Corrections = Unit {0}
 
 unfoldable pub Marking : Type 0
-unfolding Summer.exact_summer Summer.summer_mark Others.tropical Others.winter Others.atlantic Others.allowance Others.six_marks Others.sheet_at Basis.exact_reduced Basis.basis_of Steps.covered_s Steps.effective_e Steps.forecastle_house Steps.bridge_of Steps.amidships_ratio Steps.cover_reach Steps.added_to Steps.share_of Steps.taken_from Steps.bow_of Steps.summer_of Steps.particulars_of Marks.sheet_in
+unfolding Summer.exact_summer Summer.summer_mark Others.tropical Others.winter Others.atlantic Others.allowance Others.six_marks Others.sheet_at Basis.exact_reduced Basis.basis_of Steps.covered_s Steps.effective_e Steps.forecastle_house Steps.amidships_ratio Steps.cover_reach Steps.added_to Steps.taken_from Steps.bow_of Steps.summer_of Steps.particulars_of Marks.sheet_in
 Marking = Unit {0}
 
 unfoldable pub Asking : Type 0

@@ -17,7 +17,7 @@ use Rattle.trial.specs.Poop.{with_poop, fits_at}
 use Rattle.question.specs.Question.{Reply, given, no_length, shortest_for, reply_for}
 use Rattle.question.proofs.Search.{is_shortest}
 use Rattle.poop.proofs.Theorems.{of_none}
-use Rattle.figures.specs.Figures.{present, set_in, house}
+use Rattle.figures.specs.Figures.{set_in, house}
 use Rattle.figures.proofs.Claim.{Tools, Reader, Houses, Corrections, Marking, Asking}
 
 abbrev ordinates : List ℕ → List Ordinate
@@ -46,10 +46,10 @@ unfolding rising set_in Tools Reader
 rising_accepted = refl
 
 abbrev pub mark : ℕ → ℕ
-mark k = summer_of present (with_poop 150 k rising)
+mark k = summer_of (with_poop 150 k rising)
 
 abbrev pub fits : ℕ → Bool
-fits k = fits_at present rising 150 822 k
+fits k = fits_at rising 150 822 k
 
 -- the search that gives up where the next mark is greater
 unfoldable pub until_rise : ℕ → ℕ → Reply
@@ -65,13 +65,13 @@ unfolding rising set_in Tools Reader Houses Corrections Marking Asking
 fits_later = refl
 
 -- height, wish and room for a poop pass, so the search answers
-asked : reply_for present rising 150 822 ≡ shortest_for present rising 150 822
+asked : reply_for rising 150 822 ≡ shortest_for rising 150 822
 unfolding rising set_in Tools reply_for
 asked = refl
 
-pub stops_at_rise : ¬ (until_rise 801 0 ≡ reply_for present rising 150 822)
+pub stops_at_rise : ¬ (until_rise 801 0 ≡ reply_for rising 150 822)
 unfolding rising
 stops_at_rise e =
-    let z : shortest_for present rising 150 822 ≡ no_length = sym asked ∙ sym e ∙ gives_up in
-    let f = of_none fits 80000 (shortest_for present rising 150 822) (is_shortest present rising 150 822) (ap (λ (r : Reply). r.verdict.number) z) 280 (omega arith) in
+    let z : shortest_for rising 150 822 ≡ no_length = sym asked ∙ sym e ∙ gives_up in
+    let f = of_none fits 80000 (shortest_for rising 150 822) (is_shortest rising 150 822) (ap (λ (r : Reply). r.verdict.number) z) 280 (omega arith) in
     true≢false (sym fits_later ∙ f)

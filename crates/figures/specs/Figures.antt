@@ -4,21 +4,22 @@ use Rattle.whole.specs.Frac.{Frac}
 use Rattle.units.specs.declared.Ordinate.{Ordinate}
 use Rattle.units.specs.Datum.{station_of, lift}
 use Rattle.tabular.specs.Tabular.{table_a, table_b}
-use Rattle.edition.specs.declared.Edition.TheVariants.{Of2003}
+use Rattle.percentages.specs.Table37.{ordinary_row}
 use Rattle.ship.specs.declared.House.{House}
 use Rattle.ship.specs.declared.Ship.{Ship}
 use Rattle.ship.specs.Refusals.{Paper}
 use Rattle.record.specs.Layout.{head_fields, head_in, house_fields, house_in, house_at, ship_in}
 use Rattle.houses.specs.Length.{covered_length}
 use Rattle.houses.specs.Height.{standard_height}
-use Rattle.houses.specs.Effective.{effective_length}
+use Rattle.houses.specs.Effective.{exact_effective, effective_length}
 use Rattle.houses.specs.Cover.{reach}
+use Rattle.corrections.specs.Fullness30.{counted}
 use Rattle.corrections.specs.Depth31.{depth_addition}
 use Rattle.deduction.specs.Deduction37.{deducted}
 use Rattle.sheer.specs.Sheer as Sheer
+use Rattle.bow.specs.Bow.{higher, lower}
 use Rattle.mark.specs.Others.{Sheet}
-use Rattle.steps.specs.Rules.{Rules, rules_of}
-use Rattle.steps.specs.Steps.{type_b, basis, added_to, share_of, taken_from, summer_of}
+use Rattle.steps.specs.Steps.{type_b, basis, effective_e, forecastle_house, added_to, taken_from, summer_of}
 use Rattle.marks.specs.Marks.{sheet_in}
 use Rattle.trial.specs.Poop.{with_poop}
 use Rattle.question.specs.Question.{Reply, reply_in}
@@ -57,23 +58,20 @@ head_row k s n =
     row k (head_fields (head_in s))
     (1 ∷ 1 ∷ n ∷ 0 ∷ 0 ∷ 90000 ∷ 6000 ∷ 6000 ∷ 6800 ∷ 8000 ∷ 1000 ∷ 444 ∷ 112 ∷ 224 ∷ 888 ∷ 2000 ∷ 0 ∷ 0 ∷ [])
 
--- ---- what is worked from a ship, by the rules of an edition; 01's is that of 2003
-abbrev pub present : Rules
-present = rules_of Of2003
-
+-- ---- what is worked from a ship
 -- the freeboard before bow height, and the bow height (39)
-abbrev pub before_bow : Rules → Ship → ℕ
-before_bow r x = added_to r (basis x).line x - taken_from r (r.lines (type_b x)) x
+abbrev pub before_bow : Ship → ℕ
+before_bow x = added_to (basis x).line x - taken_from ordinary_row x
 
-unfoldable pub bow_height : Rules → ℕ → ℕ → ℕ → ℕ → ℕ
-bow_height r l m cb cwf = r.above l m cb cwf - r.below l m cb cwf
+unfoldable pub bow_height : ℕ → ℕ → ℕ → ℕ → ℕ
+bow_height l m cb cwf = higher l m cb cwf - lower l m cb cwf
 
-abbrev pub bow_height_of : Rules → Ship → ℕ
-bow_height_of r x = bow_height r x.length.0 x.moulded.0 (r.counted x.block) x.waterplane
+abbrev pub bow_height_of : Ship → ℕ
+bow_height_of x = bow_height x.length.0 x.moulded.0 (counted x.block) x.waterplane
 
 -- the houses' deduction (37)
-abbrev pub deduction_of : Rules → Ship → ℕ
-deduction_of r x = deducted x.length.0 (share_of r (r.lines (type_b x)) x)
+abbrev pub deduction_of : Ship → ℕ
+deduction_of x = deducted (type_b x) ordinary_row (exact_effective x.length.0 (forecastle_house x)) x.length.0 (effective_e x)
 
 -- ---- what the calls answer: number, place and overlap of the refusal, all 0 where there is none; then the marks, or the length
 abbrev pub refusal_of : Paper → List ℕ
@@ -93,7 +91,7 @@ asked_row k a stated = row k (refusal_of a.verdict ++ (a.decimetres ∷ [])) sta
 
 -- k3 to k6 ask of k2's record, with a poop of 1950 mm
 abbrev pub asked : ℕ → Reply
-asked wish = reply_in present k2 1950 wish
+asked wish = reply_in k2 1950 wish
 
 -- ---- what k9 to k12 are about
 -- a height as a fraction against a whole one: by the cross product, so that nothing is rounded
@@ -133,13 +131,13 @@ sheer_deducts o hs = Sheer.deducted o 90000 (covered_length 90000 hs) (reach 900
 unfoldable pub figures : List Row
 figures =
     head_row 1 k1 0
-    ∷ one 1 (before_bow present (ship_in k1)) 1101250
-    ∷ one 1 (bow_height_of present (ship_in k1)) 4029337
-    ∷ marks_row 1 (sheet_in present k1) (0 ∷ 0 ∷ 0 ∷ 2030 ∷ 1948 ∷ 2113 ∷ 2163 ∷ 1948 ∷ 1866 ∷ [])
+    ∷ one 1 (before_bow (ship_in k1)) 1101250
+    ∷ one 1 (bow_height_of (ship_in k1)) 4029337
+    ∷ marks_row 1 (sheet_in k1) (0 ∷ 0 ∷ 0 ∷ 2030 ∷ 1948 ∷ 2113 ∷ 2163 ∷ 1948 ∷ 1866 ∷ [])
     ∷ head_row 2 k2 1
     ∷ row 2 (house_fields (house_in 1 (house_at 1 k2 0))) (1 ∷ 0 ∷ 80000 ∷ 90000 ∷ 2000 ∷ 0 ∷ 0 ∷ 0 ∷ [])
-    ∷ one 2 (deduction_of present (ship_in k2)) 69095
-    ∷ marks_row 2 (sheet_in present k2) (0 ∷ 0 ∷ 0 ∷ 1024 ∷ 921 ∷ 1128 ∷ 1178 ∷ 921 ∷ 818 ∷ [])
+    ∷ one 2 (deduction_of (ship_in k2)) 69095
+    ∷ marks_row 2 (sheet_in k2) (0 ∷ 0 ∷ 0 ∷ 1024 ∷ 921 ∷ 1128 ∷ 1178 ∷ 921 ∷ 818 ∷ [])
     ∷ one 7 (table_a 61500) 593500
     ∷ one 7 (table_b 61500) 594000
     ∷ one 8 (depth_addition 100000 6666) 0
@@ -151,7 +149,7 @@ figures =
     ∷ one 12 (sheer_deducts doubled []) 0
     ∷ one 12 (sheer_deducts doubled (house 36000 54000 2000 ∷ [])) 112500
     ∷ asked_row 3 (asked 1000) (0 ∷ 0 ∷ 0 ∷ 31 ∷ [])
-    ∷ one 3 (summer_of present (with_poop 1950 30 (ship_in k2))) 1001
+    ∷ one 3 (summer_of (with_poop 1950 30 (ship_in k2))) 1001
     ∷ asked_row 4 (asked 1024) (0 ∷ 0 ∷ 0 ∷ 0 ∷ [])
     ∷ asked_row 5 (asked 187) (0 ∷ 0 ∷ 0 ∷ 800 ∷ [])
     ∷ asked_row 6 (asked 50) (16 ∷ 0 ∷ 0 ∷ 0 ∷ [])

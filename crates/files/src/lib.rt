@@ -1,4 +1,4 @@
-// What a program's arguments name: files, and an edition. What is printed and read is run and compared, not proved.
+// The files that a program's arguments name. What is printed and read is run and compared, not proved.
 #![tactic(auto)]
 
 ghost use Rattle.io.specs.Counts.{IsPrefixLen};
@@ -17,11 +17,4 @@ pub fn named(i: usize, buf: &mut [u8]) -> usize
     let n = io::read_full(fd, buf);
     libc::close(fd);
     n
-}
-
-// Whether argument i is 1966, which names that edition.
-pub fn is_1966(i: usize) -> bool {
-    let mut buf = io::buffer();
-    let n = os::arg(i, &mut buf);
-    edition::is_1966(&buf[..n])
 }

@@ -6,4 +6,3 @@ pub mod Midship
 pub mod Foremost
 pub mod Amidships
 pub mod SetIn
-pub mod Bridge

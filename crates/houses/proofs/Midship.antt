@@ -56,7 +56,7 @@ reach_from : (l m : ℕ) (hs : List House) → InOrder m hs → total (reach_of 
 unfolding total
 reach_from l m [] o = omega arith
 reach_from l m (h ∷ hs) o =
-    omega (arith, reach_from l h.fore.0 hs o.2, left_after l h (omega (arith, o.1)), left_falls l m h.aft.0 o.0)
+    omega (arith, reach_from l h.fore.0 hs o.2, left_after l h o.1, left_falls l m h.aft.0 o.0)
 
 pub reach_most : (l : ℕ) (hs : List House) → GoodHouses l hs → reach l hs ≤ 2 * l
 unfolding reach left

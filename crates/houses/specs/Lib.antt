@@ -5,4 +5,3 @@ pub mod Covered
 pub mod Forecastle
 pub mod Cover
 pub mod Amidships
-pub mod Bridge

@@ -3,21 +3,19 @@
 use Rattle.std.specs.Prelude.{◌+◌, ◌^◌, ◌≤◌}
 use Rattle.units.specs.Datum.{lift, sheer_at}
 use Rattle.ship.specs.declared.Ship.{Ship}
-use Rattle.edition.specs.declared.Edition.{Edition}
+use Rattle.corrections.specs.Fullness30.{counted}
 use Rattle.corrections.specs.Depth31.{depth_addition}
 use Rattle.sheer.specs.Sheer as Sheer
-use Rattle.bow.specs.Bow.{sheer_taken}
-use Rattle.steps.specs.Rules.{rules_of}
+use Rattle.bow.specs.Bow.{higher, lower, sheer_taken}
 use Rattle.steps.specs.Steps.{type_b, basis}
 use Rattle.hull.specs.declared.Hull.{Hull}
 
--- by an edition: what the type decides (27, 28, 40), depth and what it adds (31), the mean of the sheer (38), and the bow height before the forecastle is taken (39)
-unfoldable pub hull_of : Edition → Ship → Hull
-hull_of e x = record {
-  edition = e;
+-- what the type decides (27, 28, 40), depth and what it adds (31), the mean of the sheer (38), and the bow height before the forecastle is taken (39)
+unfoldable pub hull_of : Ship → Hull
+hull_of x = record {
   b = type_b x;
   length = x.length;
-  block = (rules_of e).counted x.block;
+  block = counted x.block;
   basis = record { line = record { 0 = (basis x).line }; floor = (basis x).floor };
   depth = x.depth;
   deep = record { 0 = depth_addition x.length.0 x.depth.0 };
@@ -26,8 +24,8 @@ hull_of e x = record {
     excess = record { 0 = Sheer.excess (Sheer.after_sum x.sheer) (Sheer.forward_sum x.sheer) x.length.0 };
   };
   bow = record {
-    above = record { 0 = (rules_of e).above x.length.0 x.moulded.0 ((rules_of e).counted x.block) x.waterplane + sheer_taken (sheer_at x.sheer 4) lift };
-    below = record { 0 = (rules_of e).below x.length.0 x.moulded.0 ((rules_of e).counted x.block) x.waterplane + sheer_taken (sheer_at x.sheer 4) (sheer_at x.sheer 5) };
+    above = record { 0 = higher x.length.0 x.moulded.0 (counted x.block) x.waterplane + sheer_taken (sheer_at x.sheer 4) lift };
+    below = record { 0 = lower x.length.0 x.moulded.0 (counted x.block) x.waterplane + sheer_taken (sheer_at x.sheer 4) (sheer_at x.sheer 5) };
   };
 }
 

@@ -9,17 +9,15 @@ ghost use Rattle.hull.specs.Parts.{hull_of, FairHull};
 use basis::Basis;
 use bow::Height;
 use corrections::{depth, fullness};
-use edition::Edition;
 use mark::Particulars;
 use sheer::Mean;
 use ship::{Ship, kind};
 use units::{Freeboard, Span};
 
 // What the type decides (27, 28, 40), depth and what it adds (31), the mean of the sheer (38), and the bow height asked for before the forecastle is taken (39).
-// The block coefficient is the one that counts (30). The edition decides that, the bow height, and what `summer` takes by 37.
+// The block coefficient is the one that counts (30).
 #[derive(Clone, Copy)]
 pub struct Hull {
-    pub edition: Edition,
     pub b: bool,
     pub length: Span,
     pub block: u64,
@@ -30,24 +28,22 @@ pub struct Hull {
     pub bow: Height,
 }
 
-// The hull of a ship that the reader accepts, by an edition.
-pub fn hull_of(edition: Edition, x: Ship) -> Hull
+// The hull of a ship that the reader accepts.
+pub fn hull_of(x: Ship) -> Hull
     requires { Sound x }
-    ensures value { result ≡ hull_of edition x }
+    ensures value { result ≡ hull_of x }
     ensures fair_hull { FairHull result }
 {
     let b = x.kind != kind::A;
     let length = x.length;
     let o = x.sheer;
-    let block = fullness::counted_block(edition, x.block);
+    let block = fullness::counted_block(x.block);
     let basis = basis::basis_of(x.kind, length);
     let d = x.depth;
     let deep = depth::addition(length, d);
     let mean = sheer::mean_sheer(length, o);
-    let asked = bow::asked(edition, length, x.moulded, block, x.waterplane);
-    let bow = bow::less_sheer(asked, o[4], o[5]);
+    let bow = bow::asked(length, x.moulded, block, x.waterplane, o[4], o[5]);
     Hull {
-        edition,
         b,
         length,
         block,

@@ -1,16 +1,12 @@
-// Prints the marks or the refusal of each record that an argument names, by the edition of 2003 and then by that of 1966.
+// Prints the marks or the refusal of each record that an argument names.
 // What must come is in `stdout`, made by `samples marks` of twin/, which shares no code with the crates.
 #![tactic(auto)]
 
-use edition::Edition;
 
 fn one(i: usize) {
     let mut buf = [0u8; 128];
     let n = files::named(i, &mut buf);
-    show::answer(marks::of_record(Edition::Of2003, &buf[..n]));
-    show::text(b"\n");
-    show::text(b"1966: ");
-    show::answer(marks::of_record(Edition::Of1966, &buf[..n]));
+    show::answer(marks::of_record(&buf[..n]));
     show::text(b"\n");
 }
 

@@ -1,20 +1,22 @@
-// Asks the shortest poop of each file that an argument names, by the edition of 2003 and then by that of 1966: eight bytes of height, eight of wish, then a record.
+// Asks the shortest poop of each file that an argument names: eight bytes of height, eight of wish, then a record.
 // What must come is in `stdout`, made by `samples questions` of twin/, which shares no code with the crates.
 #![tactic(auto)]
 
-use edition::Edition;
 use question::Answer;
 
-fn ask(edition: Edition, s: &[u8]) -> Answer {
+fn ask(s: &[u8]) -> Answer {
     if s.len() < 16 {
-        return poop::of_record(edition, s, 0, 0);
+        return poop::of_record(s, 0, 0);
     }
     let height = bits::word(&s[0..8]);
     let wish = bits::word(&s[8..16]);
-    poop::of_record(edition, &s[16..], height, wish)
+    poop::of_record(&s[16..], height, wish)
 }
 
-fn tell(a: Answer) {
+fn one(i: usize) {
+    let mut buf = [0u8; 144];
+    let n = files::named(i, &mut buf);
+    let a = ask(&buf[..n]);
     match a {
         Answer::Poop(k) => {
             show::text(b"poop");
@@ -23,14 +25,6 @@ fn tell(a: Answer) {
         Answer::Refused(r) => show::refused(r),
     }
     show::text(b"\n");
-}
-
-fn one(i: usize) {
-    let mut buf = [0u8; 144];
-    let n = files::named(i, &mut buf);
-    tell(ask(Edition::Of2003, &buf[..n]));
-    show::text(b"1966: ");
-    tell(ask(Edition::Of1966, &buf[..n]));
 }
 
 fn main() {

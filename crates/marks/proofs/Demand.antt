@@ -30,9 +30,32 @@ use Rattle.timber.specs.Answer.{Sheet, sheet, sheet_with}
 use Rattle.steps.specs.Exact.{exact_summer_of}
 use Rattle.steps.specs.Timber.{timber_marks_of}
 use Rattle.steps.proofs.Bound.{summer_bounded, timber_bounded}
-use Rattle.steps.specs.Rules.{Rules}
-use Rattle.steps.proofs.Rules.{FairRules}
 use Rattle.marks.specs.Marks.{sheet_for, sheet_in, answer_for, answer_in, TimberBounded, Bounded}
+
+-- ---- the timber marks of an answer that has them
+module _ (x : Ship) (o : Ordinary.Sheet) (m : Marks) (t : TimberMarks) (e : sheet (WithTimber m t) ≡ sheet_with o x.timber (timber_marks_of x o.marks)) where
+  -- they are the ship's, beside its ordinary marks
+  pub timber_is : t ≡ timber_marks_of x m
+  unfolding sheet_with
+  timber_is =
+      let a : (eqb o.verdict.number 0 && x.timber) ≡ true = sym (ap (λ (s : Sheet). s.given) e) in
+      let b : o.marks ≡ m = sym (ap (λ (s : Sheet). s.ordinary.marks) e) in
+      ap (λ (s : Sheet). s.timber) e ∙ pick_true _ _ _ a ∙ ap (timber_marks_of x) b
+
+  pub timber_close : Sound x → TimberBounded t x
+  unfolding timber_marks_of timber_marks timber_from
+  timber_close k h = rw (ap (λ (n : TimberMarks). n.ls) (timber_is ∙ pick_true _ _ _ h)) (timber_bounded x k)
+
+-- ---- an answer that meets the call's equation is within the bound as well
+ordinary_close : (x : Ship) → Sound x → (m : Marks) → Ordinary.sheet (Ordinarily.Given m) ≡ sheet_for x → Holds m.s (exact_summer_of x)
+unfolding sheet_for sheet_at six_marks
+ordinary_close x k m e = rw (given_marks (first (mark_lines (particulars_of x) (summer_of x))) (six_marks (particulars_of x) (summer_of x)) m e).1 (summer_bounded x k)
+
+pub bounded : (x : Ship) → Sound x → (r : Answer) → sheet r ≡ answer_for x → Bounded r x
+unfolding answer_for sheet_with
+bounded x k (Given m) e = ordinary_close x k m (ap (λ (s : Sheet). s.ordinary) e)
+bounded x k (WithTimber m t) e = (ordinary_close x k m (ap (λ (s : Sheet). s.ordinary) e), timber_close x (sheet_for x) m t e k)
+bounded x k (Refused r) e = tt
 
 -- bytes whose lines 1 to 11, 18 and 22 to 24 all pass are of a ship that the steps can take
 pub sound : (s : List ℕ) → AllPass (frame_lines s) → AllPass (ship_lines (ship_in s)) → Sound (ship_in s)
@@ -41,58 +64,27 @@ sound s a b =
     let f = frame_passed s a in
     record { type = type_most (head_in s).version f.type; timber = f.timber; few = f.few; good = good (ship_in s) (ap (λ (t : Paper). t.number) (first_passed (ship_lines (ship_in s)) b)) }
 
--- ---- by any rules
-module _ (u : Rules) where
-  -- the timber marks of an answer that has them
-  module _ (x : Ship) (o : Ordinary.Sheet) (m : Marks) (t : TimberMarks) (e : sheet (WithTimber m t) ≡ sheet_with o x.timber (timber_marks_of u x o.marks)) where
-    -- they are the ship's, beside its ordinary marks
-    pub timber_is : t ≡ timber_marks_of u x m
-    unfolding sheet_with
-    timber_is =
-        let a : (eqb o.verdict.number 0 && x.timber) ≡ true = sym (ap (λ (s : Sheet). s.given) e) in
-        let b : o.marks ≡ m = sym (ap (λ (s : Sheet). s.ordinary.marks) e) in
-        ap (λ (s : Sheet). s.timber) e ∙ pick_true _ _ _ a ∙ ap (timber_marks_of u x) b
+-- what marks that are given show: the ship is sound, its S is below D, and they are its six
+pub given_in : (s : List ℕ) (m : Marks) → Ordinary.sheet (Ordinarily.Given m) ≡ sheet_in s
+    → let x = ship_in s in Sound x × (summer_of x < x.depth.0) × (m ≡ six_marks (particulars_of x) (summer_of x))
+unfolding sheet_in particulars_of
+given_in s m e =
+    let x = ship_in s in
+    let more = mark_lines (particulars_of x) (summer_of x) in
+    let v : (first (frame_lines s ++ (ship_lines x ++ more))).number ≡ 0 = sym (ap (λ (t : Ordinary.Sheet). t.verdict.number) e) in
+    let p = all_pass_split (frame_lines s) (ship_lines x ++ more) (all_pass (frame_lines s ++ (ship_lines x ++ more)) (omega arith) v) in
+    let q = all_pass_split (ship_lines x) more p.1 in
+    (sound s p.0 q.0, leb-false x.depth.0 (summer_of x) q.1.0, (given_marks (first (frame_lines s ++ (ship_lines x ++ more))) (six_marks (particulars_of x) (summer_of x)) m e).1)
 
-  -- what marks that are given show: the ship is sound, its S is below D, and they are its six
-  pub given_in : (s : List ℕ) (m : Marks) → Ordinary.sheet (Ordinarily.Given m) ≡ sheet_in u s
-      → let x = ship_in s in Sound x × (summer_of u x < x.depth.0) × (m ≡ six_marks (particulars_of x) (summer_of u x))
-  unfolding sheet_in particulars_of
-  given_in s m e =
-      let x = ship_in s in
-      let more = mark_lines (particulars_of x) (summer_of u x) in
-      let v : (first (frame_lines s ++ (ship_lines x ++ more))).number ≡ 0 = sym (ap (λ (t : Ordinary.Sheet). t.verdict.number) e) in
-      let p = all_pass_split (frame_lines s) (ship_lines x ++ more) (all_pass (frame_lines s ++ (ship_lines x ++ more)) (omega arith) v) in
-      let q = all_pass_split (ship_lines x) more p.1 in
-      (sound s p.0 q.0, leb-false x.depth.0 (summer_of u x) q.1.0, (given_marks (first (frame_lines s ++ (ship_lines x ++ more))) (six_marks (particulars_of x) (summer_of u x)) m e).1)
+given_close : (s : List ℕ) (m : Marks) → Ordinary.sheet (Ordinarily.Given m) ≡ sheet_in s → Sound (ship_in s) × Holds m.s (exact_summer_of (ship_in s))
+unfolding six_marks
+given_close s m e = let g = given_in s m e in (g.0, rw g.2 (summer_bounded (ship_in s) g.0))
 
--- ---- by any rules that are fair
-module _ {u : Rules} (fair : FairRules u) where
-  -- ---- the timber marks of an answer that has them
-  timber_close : (x : Ship) (o : Ordinary.Sheet) (m : Marks) (t : TimberMarks) → sheet (WithTimber m t) ≡ sheet_with o x.timber (timber_marks_of u x o.marks)
-      → Sound x → TimberBounded u t x
-  unfolding timber_marks_of timber_marks timber_from
-  timber_close x o m t e k h = rw (ap (λ (n : TimberMarks). n.ls) (timber_is u x o m t e ∙ pick_true _ _ _ h)) (timber_bounded fair x k)
-
-  -- ---- an answer that meets the call's equation is within the bound as well
-  ordinary_close : (x : Ship) → Sound x → (m : Marks) → Ordinary.sheet (Ordinarily.Given m) ≡ sheet_for u x → Holds m.s (exact_summer_of u x)
-  unfolding sheet_for sheet_at six_marks
-  ordinary_close x k m e = rw (given_marks (first (mark_lines (particulars_of x) (summer_of u x))) (six_marks (particulars_of x) (summer_of u x)) m e).1 (summer_bounded fair x k)
-
-  pub bounded : (x : Ship) → Sound x → (r : Answer) → sheet r ≡ answer_for u x → Bounded u r x
-  unfolding answer_for sheet_with
-  bounded x k (Given m) e = ordinary_close x k m (ap (λ (s : Sheet). s.ordinary) e)
-  bounded x k (WithTimber m t) e = (ordinary_close x k m (ap (λ (s : Sheet). s.ordinary) e), timber_close x (sheet_for u x) m t e k)
-  bounded x k (Refused r) e = tt
-
-  given_close : (s : List ℕ) (m : Marks) → Ordinary.sheet (Ordinarily.Given m) ≡ sheet_in u s → Sound (ship_in s) × Holds m.s (exact_summer_of u (ship_in s))
-  unfolding six_marks
-  given_close s m e = let g = given_in u s m e in (g.0, rw g.2 (summer_bounded fair (ship_in s) g.0))
-
-  -- for every byte string for which the marks call gives marks
-  pub bounded_in : (s : List ℕ) (r : Answer) → sheet r ≡ answer_in u s → Bounded u r (ship_in s)
-  unfolding answer_in sheet_with
-  bounded_in s (Given m) e = (given_close s m (ap (λ (t : Sheet). t.ordinary) e)).1
-  bounded_in s (WithTimber m t) e =
-      let g = given_close s m (ap (λ (a : Sheet). a.ordinary) e) in
-      (g.1, timber_close (ship_in s) (sheet_in u s) m t e g.0)
-  bounded_in s (Refused r) e = tt
+-- for every byte string for which the marks call gives marks
+pub bounded_in : (s : List ℕ) (r : Answer) → sheet r ≡ answer_in s → Bounded r (ship_in s)
+unfolding answer_in sheet_with
+bounded_in s (Given m) e = (given_close s m (ap (λ (t : Sheet). t.ordinary) e)).1
+bounded_in s (WithTimber m t) e =
+    let g = given_close s m (ap (λ (u : Sheet). u.ordinary) e) in
+    (g.1, timber_close (ship_in s) (sheet_in s) m t e g.0)
+bounded_in s (Refused r) e = tt

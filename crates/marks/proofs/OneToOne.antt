@@ -5,9 +5,7 @@ use Prim.Native.Nat.{ℕ}
 use Rattle.timber.specs.declared.Answer.{Answer}
 use Rattle.timber.specs.Answer.{sheet}
 use Rattle.timber.proofs.OneToOne.{sheet_one}
-use Rattle.steps.specs.Rules.{Rules}
 use Rattle.marks.specs.Marks.{answer_in}
 
-module _ (u : Rules) where
-  pub one_answer : (s : List ℕ) (a b : Answer) → sheet a ≡ answer_in u s → sheet b ≡ answer_in u s → a ≡ b
-  one_answer s a b p q = sheet_one a b (p ∙ sym q)
+pub one_answer : (s : List ℕ) (a b : Answer) → sheet a ≡ answer_in s → sheet b ≡ answer_in s → a ≡ b
+one_answer s a b p q = sheet_one a b (p ∙ sym q)

@@ -12,18 +12,15 @@ use Rattle.mark.specs.declared.Answer.TheVariants.{Given}
 use Rattle.mark.specs.Others.{sheet}
 use Rattle.steps.specs.Steps.{effective_e}
 use Rattle.steps.proofs.SetIn.{SetIn, set_in_effective, set_in_summer}
-use Rattle.steps.specs.Rules.{Rules}
-use Rattle.steps.proofs.Rules.{FairRules}
 use Rattle.marks.specs.Marks.{sheet_in}
 use Rattle.marks.proofs.Sheet.{sound_read}
 use Rattle.marks.proofs.Types.{given_summer}
 
-module _ {u : Rules} (fair : FairRules u) where
-  pub marks_set_in : (x y : Ship) → SetIn x y → (s t : List ℕ)
-      → reading_in s ≡ record { verdict = accepted; ship = x } → reading_in t ≡ record { verdict = accepted; ship = y }
-      → (m n : Marks) → sheet (Given m) ≡ sheet_in u s → sheet (Given n) ≡ sheet_in u t → (effective_e y ≤ effective_e x) × (m.s ≤ n.s)
-  marks_set_in x y d s t p q m n a b =
-      let g = (sound_read s x p).good in (
-        set_in_effective x y d,
-        rw (given_summer u s x p m a, given_summer u t y q n b) (set_in_summer x y d fair (omega (arith, g.length_least))),
-      )
+pub marks_set_in : (x y : Ship) → SetIn x y → (s t : List ℕ)
+    → reading_in s ≡ record { verdict = accepted; ship = x } → reading_in t ≡ record { verdict = accepted; ship = y }
+    → (m n : Marks) → sheet (Given m) ≡ sheet_in s → sheet (Given n) ≡ sheet_in t → (effective_e y ≤ effective_e x) × (m.s ≤ n.s)
+marks_set_in x y d s t p q m n a b =
+    let g = (sound_read s x p).good in (
+      set_in_effective x y d,
+      rw (given_summer s x p m a, given_summer t y q n b) (set_in_summer x y d (omega (arith, g.length_least))),
+    )

@@ -25,71 +25,69 @@ use Rattle.timber.specs.Answer.{sheet_with}
 use Rattle.timber.proofs.OneToOne as Wholly
 use Rattle.steps.specs.Steps.{Sound, summer_of, particulars_of}
 use Rattle.steps.specs.Timber.{timber_marks_of}
-use Rattle.steps.specs.Rules.{Rules}
 use Rattle.marks.specs.Marks.{sheet_for, sheet_in, answer_for, answer_in}
 
--- a ship that is read is one that the steps can take
+-- the call's answer by its verdict, and its own lines
+abbrev answer : Paper → Ship → Sheet
+answer v x = sheet_of v (six_marks (particulars_of x) (summer_of x))
+
+abbrev more : Ship → List Line
+more x = mark_lines (particulars_of x) (summer_of x)
+
+pub sheet_read : (s : List ℕ) (x : Ship) → reading_in s ≡ record { verdict = accepted; ship = x } → sheet_in s ≡ sheet_for x
+unfolding sheet_in sheet_for sheet_at
+sheet_read s x e = call_read answer more s x e
+
+-- and the ship is one that the steps can take
 pub sound_read : (s : List ℕ) (x : Ship) → reading_in s ≡ record { verdict = accepted; ship = x } → Sound x
 sound_read s x e = let g = read_is_good s x e in record { type = g.0; timber = g.1; few = g.2; good = g.3 }
 
-module _ (u : Rules) where
-  -- the call's answer by its verdict, and its own lines
-  abbrev answer : Paper → Ship → Sheet
-  answer v x = sheet_of v (six_marks (particulars_of x) (summer_of u x))
+pub sheet_refused : (s : List ℕ) (r : Refusal) → (reading_in s).verdict ≡ refused_as r
+    → sheet_in s ≡ record { verdict = refused_as r; marks = no_marks }
+unfolding sheet_in
+sheet_refused s r e =
+    let v = refused_as r in
+    call_refused answer more s r e ∙ ap (λ (m : Marks). record { verdict = v; marks = m }) (beside_refusal r (six_marks (particulars_of (ship_in s)) (summer_of (ship_in s))) no_marks)
 
-  abbrev more : Ship → List Line
-  more x = mark_lines (particulars_of x) (summer_of u x)
+-- ---- and with the timber marks beside them
+pub answer_read : (s : List ℕ) (x : Ship) → reading_in s ≡ record { verdict = accepted; ship = x } → answer_in s ≡ answer_for x
+unfolding answer_in answer_for
+answer_read s x e = let y = ship_is s x e in let o = sheet_read s x e in λ i. sheet_with (o i) (y i).timber (timber_marks_of (y i) (o i).marks)
 
-  pub sheet_read : (s : List ℕ) (x : Ship) → reading_in s ≡ record { verdict = accepted; ship = x } → sheet_in u s ≡ sheet_for u x
-  unfolding sheet_in sheet_for sheet_at
-  sheet_read s x e = call_read answer more s x e
+pub answer_refused : (s : List ℕ) (r : Refusal) → (reading_in s).verdict ≡ refused_as r → answer_in s ≡ Whole.sheet (Refused r)
+unfolding answer_in
+answer_refused s r e =
+    let x = ship_in s in
+    let o = sheet_refused s r e in
+    (λ i. sheet_with (o i) x.timber (timber_marks_of x (o i).marks)) ∙ sym (Wholly.sheet_refused r x.timber (timber_marks_of x no_marks))
 
-  pub sheet_refused : (s : List ℕ) (r : Refusal) → (reading_in s).verdict ≡ refused_as r
-      → sheet_in u s ≡ record { verdict = refused_as r; marks = no_marks }
-  unfolding sheet_in
-  sheet_refused s r e =
-      let v = refused_as r in
-      call_refused answer more s r e ∙ ap (λ (m : Marks). record { verdict = v; marks = m }) (beside_refusal r (six_marks (particulars_of (ship_in s)) (summer_of u (ship_in s))) no_marks)
+-- the answer of a ship, by its ordinary sheet and its flag
+module _ (x : Ship) where
+  pub with_timber : (m : Marks) (t : TimberMarks) → sheet (Ordinarily.Given m) ≡ sheet_for x → x.timber ≡ true → t ≡ timber_marks_of x m
+      → Whole.sheet (WithTimber m t) ≡ answer_for x
+  unfolding answer_for
+  with_timber m t o b e =
+      let q : t ≡ timber_marks_of x (sheet_for x).marks = e ∙ ap (λ (s : Sheet). timber_marks_of x s.marks) o in
+      Wholly.sheet_with_lem m t ∙ (λ i. sheet_with (o i) (sym b i) (q i))
 
-  -- ---- and with the timber marks beside them
-  pub answer_read : (s : List ℕ) (x : Ship) → reading_in s ≡ record { verdict = accepted; ship = x } → answer_in u s ≡ answer_for u x
-  unfolding answer_in answer_for
-  answer_read s x e = let y = ship_is s x e in let o = sheet_read s x e in λ i. sheet_with (o i) (y i).timber (timber_marks_of u (y i) (o i).marks)
+  pub without_timber : (m : Marks) → sheet (Ordinarily.Given m) ≡ sheet_for x → x.timber ≡ false → Whole.sheet (Given m) ≡ answer_for x
+  unfolding answer_for
+  without_timber m o b = Wholly.sheet_given m (timber_marks_of x m) ∙ (λ i. sheet_with (o i) (sym b i) (timber_marks_of x (o i).marks))
 
-  pub answer_refused : (s : List ℕ) (r : Refusal) → (reading_in s).verdict ≡ refused_as r → answer_in u s ≡ Whole.sheet (Refused r)
-  unfolding answer_in
-  answer_refused s r e =
-      let x = ship_in s in
-      let o = sheet_refused s r e in
-      (λ i. sheet_with (o i) x.timber (timber_marks_of u x (o i).marks)) ∙ sym (Wholly.sheet_refused r x.timber (timber_marks_of u x no_marks))
+  pub with_refusal : (r : Refusal) → sheet (Ordinarily.Refused r) ≡ sheet_for x → Whole.sheet (Refused r) ≡ answer_for x
+  unfolding answer_for
+  with_refusal r o = Wholly.sheet_refused r x.timber (timber_marks_of x no_marks) ∙ (λ i. sheet_with (o i) x.timber (timber_marks_of x (o i).marks))
 
-  -- the answer of a ship, by its ordinary sheet and its flag
-  module _ (x : Ship) where
-    pub with_timber : (m : Marks) (t : TimberMarks) → sheet (Ordinarily.Given m) ≡ sheet_for u x → x.timber ≡ true → t ≡ timber_marks_of u x m
-        → Whole.sheet (WithTimber m t) ≡ answer_for u x
-    unfolding answer_for
-    with_timber m t o b e =
-        let q : t ≡ timber_marks_of u x (sheet_for u x).marks = e ∙ ap (λ (s : Sheet). timber_marks_of u x s.marks) o in
-        Wholly.sheet_with_lem m t ∙ (λ i. sheet_with (o i) (sym b i) (q i))
+-- marks without timber marks are those of a record without the flag
+pub no_flag : (s : List ℕ) (m : Marks) → Whole.sheet (Given m) ≡ answer_in s → (ship_in s).timber ≡ false
+unfolding answer_in sheet_with
+no_flag s m e =
+    let n : (sheet_in s).verdict.number ≡ 0 = sym (ap (λ (a : Whole.Sheet). a.ordinary.verdict.number) e) in
+    sym (ap (λ (a : Whole.Sheet). a.given) e ∙ ap (λ (b : Bool). b && (ship_in s).timber) (eq-eqb (sheet_in s).verdict.number 0 n))
 
-    pub without_timber : (m : Marks) → sheet (Ordinarily.Given m) ≡ sheet_for u x → x.timber ≡ false → Whole.sheet (Given m) ≡ answer_for u x
-    unfolding answer_for
-    without_timber m o b = Wholly.sheet_given m (timber_marks_of u x m) ∙ (λ i. sheet_with (o i) (sym b i) (timber_marks_of u x (o i).marks))
-
-    pub with_refusal : (r : Refusal) → sheet (Ordinarily.Refused r) ≡ sheet_for u x → Whole.sheet (Refused r) ≡ answer_for u x
-    unfolding answer_for
-    with_refusal r o = Wholly.sheet_refused r x.timber (timber_marks_of u x no_marks) ∙ (λ i. sheet_with (o i) x.timber (timber_marks_of u x (o i).marks))
-
-  -- marks without timber marks are those of a record without the flag
-  pub no_flag : (s : List ℕ) (m : Marks) → Whole.sheet (Given m) ≡ answer_in u s → (ship_in s).timber ≡ false
-  unfolding answer_in sheet_with
-  no_flag s m e =
-      let n : (sheet_in u s).verdict.number ≡ 0 = sym (ap (λ (a : Whole.Sheet). a.ordinary.verdict.number) e) in
-      sym (ap (λ (a : Whole.Sheet). a.given) e ∙ ap (λ (b : Bool). b && (ship_in s).timber) (eq-eqb (sheet_in u s).verdict.number 0 n))
-
-  -- beside a refusal, whichever it is, all six marks are zero, and all six timber marks
-  pub zero_beside_refusal : (s : List ℕ) → ¬ ((answer_in u s).ordinary.verdict.number ≡ 0) → ((answer_in u s).ordinary.marks ≡ no_marks) × ((answer_in u s).timber ≡ no_timber)
-  unfolding answer_in sheet_in sheet_with
-  zero_beside_refusal s n =
-      let e = ne_eqb (sheet_in u s).verdict.number 0 n in
-      (pick_false (eqb (sheet_in u s).verdict.number 0) _ _ e, pick_false _ _ _ (ap (λ (b : Bool). b && (ship_in s).timber) e))
+-- beside a refusal, whichever it is, all six marks are zero, and all six timber marks
+pub zero_beside_refusal : (s : List ℕ) → ¬ ((answer_in s).ordinary.verdict.number ≡ 0) → ((answer_in s).ordinary.marks ≡ no_marks) × ((answer_in s).timber ≡ no_timber)
+unfolding answer_in sheet_in sheet_with
+zero_beside_refusal s n =
+    let e = ne_eqb (sheet_in s).verdict.number 0 n in
+    (pick_false (eqb (sheet_in s).verdict.number 0) _ _ e, pick_false _ _ _ (ap (λ (b : Bool). b && (ship_in s).timber) e))

@@ -9,12 +9,10 @@ use Rattle.record.specs.Reading.{frame_lines}
 use Rattle.record.proofs.Split.{SplitOn, split_call}
 use Rattle.mark.specs.Others.{mark_lines}
 use Rattle.steps.specs.Steps.{summer_of, particulars_of}
-use Rattle.steps.specs.Rules.{Rules}
 use Rattle.marks.specs.Marks.{sheet_in}
 
-module _ (u : Rules) where
-  pub split_marks : (s : List ℕ)
-      → let x = ship_in s in
-      SplitOn x (sheet_in u s).verdict (first (frame_lines s ++ ship_lines01 x ++ mark_lines (particulars_of x) (summer_of u x)))
-  unfolding sheet_in
-  split_marks s = let x = ship_in s in split_call s (mark_lines (particulars_of x) (summer_of u x)) (omega arith)
+pub split_marks : (s : List ℕ)
+    → let x = ship_in s in
+    SplitOn x (sheet_in s).verdict (first (frame_lines s ++ ship_lines01 x ++ mark_lines (particulars_of x) (summer_of x)))
+unfolding sheet_in
+split_marks s = let x = ship_in s in split_call s (mark_lines (particulars_of x) (summer_of x)) (omega arith)

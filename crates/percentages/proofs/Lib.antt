@@ -1,3 +1,2 @@
 pub mod Rule37
-pub mod Beside
 pub mod Rows

@@ -1,11 +1,7 @@
 -- The percentages of the houses' deduction (37, 45), in tenths of a per cent at E/L = 0, 0.1 .. 1.0.
-use Rattle.std.specs.Prelude.{Bool, true, false, List, [], ◌∷◌, ℕ}
-use Rattle.edition.specs.declared.Edition.{Edition}
-use Rattle.edition.specs.declared.Edition.TheVariants.{Of2003, Of1966}
+use Rattle.std.specs.Prelude.{List, [], ◌∷◌, ℕ}
 use Rattle.percentages.specs.declared.Row.{Row}
 use Rattle.percentages.specs.declared.Row.TheVariants.{Ordinary, Timber, Older, OlderBridge}
-use Rattle.percentages.specs.declared.Lines.{Lines}
-use Rattle.percentages.specs.declared.Lines.TheVariants.{One, Two}
 
 -- table 37.1
 unfoldable pub ordinary_row : List ℕ
@@ -29,9 +25,3 @@ entries Ordinary = ordinary_row
 entries Timber = timber_row
 entries Older = older_row
 entries OlderBridge = older_bridge_row
-
--- 37(2): the row of an edition for ships of type B, or of type A; in that of 1966 two for type B, of ships without and with a detached bridge
-abbrev pub lines_of : Edition → Bool → Lines
-lines_of Of2003 type_b = One Ordinary
-lines_of Of1966 true = Two Older OlderBridge
-lines_of Of1966 false = One Ordinary

@@ -2,9 +2,7 @@
 #![tactic(auto)]
 
 ghost use Rattle.std.specs.Prelude.{◌≡◌, ◌≤◌, ◌<◌, get_or};
-ghost use Rattle.percentages.specs.Table37.{entries, lines_of};
-
-use edition::Edition;
+ghost use Rattle.percentages.specs.Table37.{entries};
 
 // Table 37.1.
 const ORDINARY: [u64; 11] = [0, 70, 140, 210, 310, 410, 520, 630, 753, 877, 1000];
@@ -24,28 +22,6 @@ pub enum Row {
     Timber,
     Older,
     OlderBridge,
-}
-
-// One row, or two: of ships without and with a detached bridge.
-#[derive(Clone, Copy)]
-pub enum Lines {
-    One(Row),
-    Two(Row, Row),
-}
-
-// The row or rows of an edition's regulation 37, for ships of type B (`b`) or of type A.
-pub fn lines_of(edition: Edition, b: bool) -> Lines
-    ensures { result ≡ lines_of edition b }
-{
-    match edition {
-        Edition::Of2003 => Lines::One(Row::Ordinary),
-        Edition::Of1966 => {
-            if b {
-                return Lines::Two(Row::Older, Row::OlderBridge);
-            }
-            Lines::One(Row::Ordinary)
-        }
-    }
 }
 
 // The percentage at the tenth `k` of E/L.

@@ -15,7 +15,22 @@ use Rattle.record.proofs.Calls.{call_read, call_refused}
 use Rattle.question.specs.declared.Answer.{Answer}
 use Rattle.question.specs.declared.Answer.TheVariants.{Poop, Refused}
 use Rattle.question.specs.Question.{Reply, refusing, reply, ask_lines, reply_of, shortest_for, reply_for, reply_in}
-use Rattle.steps.specs.Rules.{Rules}
+
+module _ (height wish : ℕ) where
+  -- the call's answer by its verdict, and its own lines
+  abbrev answer : Paper → Ship → Reply
+  answer v x = reply_of v (shortest_for x height wish)
+
+  abbrev more : Ship → List Line
+  more x = ask_lines x height wish
+
+  pub reply_read : (s : List ℕ) (x : Ship) → reading_in s ≡ record { verdict = accepted; ship = x } → reply_in s height wish ≡ reply_for x height wish
+  unfolding reply_in reply_for
+  reply_read s x e = call_read answer more s x e
+
+  pub reply_refused : (s : List ℕ) (r : Refusal) → (reading_in s).verdict ≡ refused_as r → reply_in s height wish ≡ refusing (refused_as r)
+  unfolding reply_in
+  reply_refused s r e = call_refused answer more s r e ∙ beside_refusal r (shortest_for (ship_in s) height wish) (refusing (refused_as r))
 
 -- ---- number, place, overlap and length name one answer
 pub one_reply : (a b : Answer) → reply a ≡ reply b → a ≡ b
@@ -27,23 +42,6 @@ one_reply (Refused q) (Refused r) e =
     let s : q ≡ r = cc in
     ap Refused s
 
-module _ (u : Rules) where
-  module _ (height wish : ℕ) where
-    -- the call's answer by its verdict, and its own lines
-    abbrev answer : Paper → Ship → Reply
-    answer v x = reply_of v (shortest_for u x height wish)
-
-    abbrev more : Ship → List Line
-    more x = ask_lines x height wish
-
-    pub reply_read : (s : List ℕ) (x : Ship) → reading_in s ≡ record { verdict = accepted; ship = x } → reply_in u s height wish ≡ reply_for u x height wish
-    unfolding reply_in reply_for
-    reply_read s x e = call_read answer more s x e
-
-    pub reply_refused : (s : List ℕ) (r : Refusal) → (reading_in s).verdict ≡ refused_as r → reply_in u s height wish ≡ refusing (refused_as r)
-    unfolding reply_in
-    reply_refused s r e = call_refused answer more s r e ∙ beside_refusal r (shortest_for u (ship_in s) height wish) (refusing (refused_as r))
-
-  -- so no second answer meets the contract
-  pub one_answer : (s : List ℕ) (height wish : ℕ) (a b : Answer) → reply a ≡ reply_in u s height wish → reply b ≡ reply_in u s height wish → a ≡ b
-  one_answer s height wish a b p q = one_reply a b (p ∙ sym q)
+-- so no second answer meets the contract
+pub one_answer : (s : List ℕ) (height wish : ℕ) (a b : Answer) → reply a ≡ reply_in s height wish → reply b ≡ reply_in s height wish → a ≡ b
+one_answer s height wish a b p q = one_reply a b (p ∙ sym q)

@@ -1,12 +1,10 @@
-// The shortest-poop question by an edition of the regulations: on a ship, or on any bytes as a ship record, with refusals 1 to 11, 18 and 22 to 24, then 14 to 16.
+// The shortest-poop question: on a ship, or on any bytes as a ship record, with refusals 1 to 11, 18 and 22 to 24, then 14 to 16.
 #![tactic(auto)]
 
 ghost use Rattle.std.specs.Prelude.{◌≡◌};
-ghost use Rattle.steps.specs.Rules.{rules_of};
 ghost use Rattle.steps.specs.Steps.{Sound};
 ghost use Rattle.question.specs.Question.{reply, no_room, reply_for, reply_in};
 
-use edition::Edition;
 use question::Answer;
 use ship::Ship;
 use ship::refusal::{Refusal, Verdict};
@@ -23,9 +21,9 @@ fn no_room(x: Ship) -> bool
 }
 
 // The question on a ship that the reader accepts: refusals 14 to 16.
-pub fn of_ship(edition: Edition, x: Ship, height: u64, wish: u64) -> Answer
+pub fn of_ship(x: Ship, height: u64, wish: u64) -> Answer
     requires { Sound x }
-    ensures { reply result ≡ reply_for (rules_of edition) x height wish }
+    ensures { reply result ≡ reply_for x height wish }
 {
     if (height < 1) | (8191 < height) | (wish < 50) | (60000 < wish) {
         return Answer::Refused(Refusal::QuestionRange);
@@ -33,19 +31,19 @@ pub fn of_ship(edition: Edition, x: Ship, height: u64, wish: u64) -> Answer
     if no_room(x) {
         return Answer::Refused(Refusal::NoRoomForPoop);
     }
-    question::shortest(edition, x, Span(height), wish)
+    question::shortest(x, Span(height), wish)
 }
 
 // The question on any bytes.
-pub fn of_record(edition: Edition, s: &[u8], height: u64, wish: u64) -> Answer
-    ensures { reply result ≡ reply_in (rules_of edition) s.now height wish }
+pub fn of_record(s: &[u8], height: u64, wish: u64) -> Answer
+    ensures { reply result ≡ reply_in s.now height wish }
 {
     let a = reader::read(s);
     let v = a.verdict;
     match v {
         Verdict::Accepted => {
             let x = a.ship;
-            of_ship(edition, x, height, wish)
+            of_ship(x, height, wish)
         }
         Verdict::Refused(r) => Answer::Refused(r),
     }

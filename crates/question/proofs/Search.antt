@@ -6,8 +6,6 @@ use native.Mathlib.Decide.{dec_lt}
 use native.Mathlib.Omega.{arith}
 use lib.ListN.{length}
 use Rattle.ship.specs.declared.Ship.{Ship}
-use Rattle.edition.specs.declared.Edition.{Edition}
-use Rattle.steps.specs.Rules.{Rules, rules_of}
 use Rattle.steps.specs.Steps.{Sound}
 use Rattle.trial.specs.declared.Standing.{Standing}
 use Rattle.trial.specs.Poop.{fits_at}
@@ -70,19 +68,19 @@ same_search f g L (suc m) k h e =
     ap₂ (λ (b : Bool) (r : Reply). elim b [ true ↦ given k | false ↦ r ]) (e k (omega arith)) (same_search f g L m (k + 1) (omega arith) e)
 
 -- ---- the definition gives the shortest, and nothing else is the shortest
-module _ (u : Rules) (x : Ship) (height wish : ℕ) where
-  pub is_shortest : Shortest (fits_at u x height wish) x.length.0 (shortest_for u x height wish)
+module _ (x : Ship) (height wish : ℕ) where
+  pub is_shortest : Shortest (fits_at x height wish) x.length.0 (shortest_for x height wish)
   unfolding shortest_for
-  is_shortest = meets (fits_at u x height wish) x.length.0 (x.length.0 / 100 + 1) 0 (omega arith) (λ j h. absurd (omega arith))
+  is_shortest = meets (fits_at x height wish) x.length.0 (x.length.0 / 100 + 1) 0 (omega arith) (λ j h. absurd (omega arith))
 
-  pub only_shortest : (r : Reply) → Shortest (fits_at u x height wish) x.length.0 r → r ≡ shortest_for u x height wish
-  only_shortest r f = one_shortest (fits_at u x height wish) x.length.0 r (shortest_for u x height wish) f is_shortest
+  pub only_shortest : (r : Reply) → Shortest (fits_at x height wish) x.length.0 r → r ≡ shortest_for x height wish
+  only_shortest r f = one_shortest (fits_at x height wish) x.length.0 r (shortest_for x height wish) f is_shortest
 
 -- ---- the search that tries each length by what was worked once is the search
-pub searched : (n : Edition) (x : Ship) → Sound x → x.n < 8 → length x.houses ≡ 8 → (height wish : ℕ) → 1 ≤ height → height ≤ 8191
-    → (q : Standing) → q ≡ standing_of n x height wish → shortest_from (fits_on q) (x.length.0 / 100 + 1) 0 ≡ shortest_for (rules_of n) x height wish
+pub searched : (x : Ship) → Sound x → x.n < 8 → length x.houses ≡ 8 → (height wish : ℕ) → 1 ≤ height → height ≤ 8191
+    → (q : Standing) → q ≡ standing_of x height wish → shortest_from (fits_on q) (x.length.0 / 100 + 1) 0 ≡ shortest_for x height wish
 unfolding shortest_for
-searched n x s few eight height wish least most q e =
+searched x s few eight height wish least most q e =
     ap (λ (p : Standing). shortest_from (fits_on p) (x.length.0 / 100 + 1) 0) e
-    ∙ same_search (fits_on (standing_of n x height wish)) (fits_at (rules_of n) x height wish) x.length.0 (x.length.0 / 100 + 1) 0 (omega arith)
-    (fits_same n x s few eight height wish least most)
+    ∙ same_search (fits_on (standing_of x height wish)) (fits_at x height wish) x.length.0 (x.length.0 / 100 + 1) 0 (omega arith)
+    (fits_same x s few eight height wish least most)

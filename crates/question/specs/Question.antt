@@ -1,4 +1,4 @@
--- 01, the shortest-poop question, by the rules r of an edition: refusals 1 to 11, 24 after 3, 22 after 7, 23 after 9, and 18 with 11, then 14, 15 and 16, in the papers' order, and the shortest length that fits.
+-- 01, the shortest-poop question: refusals 1 to 11, 24 after 3, 22 after 7, 23 after 9, and 18 with 11, then 14, 15 and 16, in the papers' order, and the shortest length that fits.
 use Rattle.std.specs.Prelude.{ℕ, zero, suc, ◌+◌, ◌*◌, ◌/◌, ◌≤◌, ◌<◌, Bool, true, false, ◌&&◌, ◌||◌, List, [], ◌∷◌, ◌++◌, ◌≡◌, eqb, ltb, leb}
 use Rattle.whole.specs.Pick.{pick}
 use Rattle.units.specs.Datum.{station_of}
@@ -10,7 +10,6 @@ use Rattle.record.specs.Layout.{ship_in}
 use Rattle.record.specs.Reading.{frame_lines}
 use Rattle.question.specs.declared.Answer.{Answer}
 use Rattle.question.specs.declared.Answer.TheVariants.{Poop, Refused}
-use Rattle.steps.specs.Rules.{Rules}
 use Rattle.trial.specs.Poop.{fits_at}
 
 -- an answer in 01's own terms: number 0 refuses nothing; beside a refusal the length is zero
@@ -47,8 +46,8 @@ shortest_from fits zero k = no_length
 shortest_from fits (suc m) k = elim (fits k) [ true ↦ given k | false ↦ shortest_from fits m (k + 1) ]
 
 -- each k with 100k at most L counts: L / 100 and one more, from 0
-unfoldable pub shortest_for : Rules → Ship → ℕ → ℕ → Reply
-shortest_for r x height wish = shortest_from (fits_at r x height wish) (x.length.0 / 100 + 1) 0
+unfoldable pub shortest_for : Ship → ℕ → ℕ → Reply
+shortest_for x height wish = shortest_from (fits_at x height wish) (x.length.0 / 100 + 1) 0
 
 -- the same said by facts: a length that fits while none shorter does, or that none does
 pub data Shortest (fits : ℕ → Bool) (L : ℕ) : Reply → Type 0 where
@@ -64,10 +63,10 @@ abbrev pub reply_of : Paper → Reply → Reply
 reply_of p r = pick (eqb p.number 0) r (refusing p)
 
 -- the question on a ship that the reader accepts
-unfoldable pub reply_for : Rules → Ship → ℕ → ℕ → Reply
-reply_for r x height wish = reply_of (first (ask_lines x height wish)) (shortest_for r x height wish)
+unfoldable pub reply_for : Ship → ℕ → ℕ → Reply
+reply_for x height wish = reply_of (first (ask_lines x height wish)) (shortest_for x height wish)
 
 -- the question on any bytes
-unfoldable pub reply_in : Rules → List ℕ → ℕ → ℕ → Reply
-reply_in r s height wish =
-    reply_of (first (frame_lines s ++ ship_lines (ship_in s) ++ ask_lines (ship_in s) height wish)) (shortest_for r (ship_in s) height wish)
+unfoldable pub reply_in : List ℕ → ℕ → ℕ → Reply
+reply_in s height wish =
+    reply_of (first (frame_lines s ++ ship_lines (ship_in s) ++ ask_lines (ship_in s) height wish)) (shortest_for (ship_in s) height wish)

@@ -2,11 +2,9 @@
 #![tactic(auto)]
 
 ghost use Rattle.std.specs.Prelude.{◌≡◌, ◌≤◌, ◌<◌};
-ghost use Rattle.steps.specs.Rules.{rules_of};
 ghost use Rattle.steps.specs.Steps.{Sound};
 ghost use Rattle.question.specs.Question.{reply, shortest_for};
 
-use edition::Edition;
 use ship::Ship;
 use ship::refusal::Refusal;
 use units::Span;
@@ -18,12 +16,12 @@ pub enum Answer {
     Refused(Refusal),
 }
 
-// The first length that fits, by an edition. A longer poop can raise the mark, so each is tried.
-pub fn shortest(edition: Edition, x: Ship, height: Span, wish: u64) -> Answer
+// The first length that fits. A longer poop can raise the mark, so each is tried.
+pub fn shortest(x: Ship, height: Span, wish: u64) -> Answer
     requires { Sound x × (x.n < 8) × (1 ≤ height.0) × (height.0 ≤ 8191) }
-    ensures { reply result ≡ shortest_for (rules_of edition) x height.0 wish }
+    ensures { reply result ≡ shortest_for x height.0 wish }
 {
-    let q = trial::standing_of(edition, x, height, wish);
+    let q = trial::standing_of(x, height, wish);
     let most = units::dm_within(x.length);
     let mut k: u64 = 0;
     while k <= most {

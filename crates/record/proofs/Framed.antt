@@ -15,7 +15,7 @@ use Rattle.ship.specs.Kinds.{timber_for_a}
 use Rattle.ship.specs.Vessel.{no_ship}
 use Rattle.ship.specs.Refusals.{Paper, accepted, refused_as, first}
 use Rattle.ship.specs.Checks.{ship_lines}
-use Rattle.ship.proofs.Lines.{or-false, AllPass, all_pass, all_pass_split, first_accepted, first_refused, first_passed, beside_refusal}
+use Rattle.ship.proofs.Lines.{or_false, AllPass, all_pass, all_pass_split, first_accepted, first_refused, first_passed, beside_refusal}
 use Rattle.ship.specs.Good.{Good}
 use Rattle.ship.proofs.Accepted.{good}
 use Rattle.record.specs.Layout.{record_length, last_version, last_type, last_type_in, head_in, ship_in}
@@ -35,7 +35,7 @@ pub record Framed (s : List ℕ) : Type 0 where
 pub frame_passed : (s : List ℕ) → AllPass (frame_lines s) → Framed s
 frame_passed s p =
     let v = (head_in s).version in
-    let known = or-false (eqb v 0) (ltb last_version v) p.1.0 in
+    let known = or_false (eqb v 0) (ltb last_version v) p.1.0 in
     record {
       long = ltb-false (length s) 27 p.0;
       first = (let n : ¬ (v ≡ 0) = eqb-false v 0 known.0 in omega arith);

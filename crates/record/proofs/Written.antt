@@ -18,7 +18,7 @@ use Rattle.ship.specs.Vessel.{full_breadth, houses_of}
 use Rattle.ship.specs.Refusals.{accepted, refused, first}
 use Rattle.ship.specs.Checks.{ship_lines}
 use Rattle.ship.specs.Good.{GoodHouse, Good}
-use Rattle.ship.proofs.Lines.{or-false, all_pass, all_pass_split, first_append, first_passed}
+use Rattle.ship.proofs.Lines.{or_false, all_pass, all_pass_split, first_append, first_passed}
 use Rattle.record.specs.Layout.{kind_bits, timber_bits, spare_bits, breadth_bits, bit, last_version, last_type, last_type_in, HousesFit, Holds, any_set_in, lowest_for, head_widths, head_fields, ship_head}
 use Rattle.record.specs.Writing.{bytes_for, write_lines, writing_of}
 use Rattle.record.proofs.House.{bit_lt, fields_fit}
@@ -48,8 +48,8 @@ writing_passed room x e =
 none_set_in : (hs : List House) → any_set_in hs ≡ false → (k : ℕ) → k < length hs → full_breadth (Vessel.house_at hs k) ≡ true
 unfolding any_set_in
 none_set_in [] e k h = absurd (omega arith)
-none_set_in (g ∷ hs) e zero h = not-false (full_breadth g) (or-false (not (full_breadth g)) (any_set_in hs) e).0
-none_set_in (g ∷ hs) e (suc k) h = none_set_in hs (or-false (not (full_breadth g)) (any_set_in hs) e).1 k (omega arith)
+none_set_in (g ∷ hs) e zero h = not-false (full_breadth g) (or_false (not (full_breadth g)) (any_set_in hs) e).0
+none_set_in (g ∷ hs) e (suc k) h = none_set_in hs (or_false (not (full_breadth g)) (any_set_in hs) e).1 k (omega arith)
 
 all_full : (hs : List House) → ((k : ℕ) → k < length hs → full_breadth (Vessel.house_at hs k) ≡ true) → any_set_in hs ≡ false
 unfolding any_set_in

@@ -1,10 +1,8 @@
--- 02: the figures stated with its requests and their readings, in the same form; for §8, which has none, figures worked by hand, and for §5, §6, §9 and §10 some besides. A row has the request's number.
-use Rattle.std.specs.Prelude.{ℕ, ◌+◌, ◌*◌, Bool, true, false, List, [], ◌∷◌, ◌++◌, map, ℤ, pos, ◌-ℤ◌, drop}
-use Rattle.whole.specs.Frac.{whole, ceil, floor}
-use Rattle.units.specs.Datum.{station_of, lift}
-use Rattle.edition.specs.declared.Edition.TheVariants.{Of1966}
+-- 02: the figures stated with its requests and their readings, in the same form; for §8, which has none, figures worked by hand, and for §5, §6 and §9 some besides. A row has the request's number.
+use Rattle.std.specs.Prelude.{ℕ, ◌+◌, ◌*◌, true, List, [], ◌∷◌, ◌++◌, map, ℤ, pos, ◌-ℤ◌, drop}
+use Rattle.whole.specs.Frac.{ceil}
+use Rattle.units.specs.Datum.{lift}
 use Rattle.ship.specs.declared.House.{House}
-use Rattle.ship.specs.declared.Ship.{Ship}
 use Rattle.ship.specs.Kinds.{kind_a, kind_b, kind_b60, kind_b100, kind_covers}
 use Rattle.ship.specs.Refusals.{Paper, first}
 use Rattle.ship.specs.Checks.{house_lines}
@@ -16,20 +14,16 @@ use Rattle.basis.specs.Basis.{basis_of}
 use Rattle.houses.specs.Height.{height_ratio}
 use Rattle.houses.specs.Effective.{exact_effective, effective_length}
 use Rattle.houses.specs.Amidships.{amidships_of}
-use Rattle.houses.specs.Bridge.{bridge_length}
 use Rattle.corrections.specs.Depth31.{depth_reduction}
 use Rattle.sheer.specs.Sheer.{exact_deficiency, exact_addition, excess, deficiency, addition}
-use Rattle.percentages.specs.Table37.{ordinary_row, older_row}
-use Rattle.deduction.specs.Deduction37.{exact_share, bridge_part, exact_share_by, all_or_nothing, millionths, deducted}
-use Rattle.bow.specs.Bow as Bow
-use Rattle.steps.specs.Rules.{Rules, rules_of}
-use Rattle.steps.specs.Steps.{type_b, effective_e, share_of, summer_of}
-use Rattle.steps.specs.Timber.{timber_lines}
+use Rattle.percentages.specs.Table37.{ordinary_row}
+use Rattle.deduction.specs.Deduction37.{deducted}
+use Rattle.steps.specs.Steps.{effective_e, summer_of}
 use Rattle.timber.specs.Answer.{Sheet}
 use Rattle.marks.specs.Marks.{sheet_in, answer_in}
 use Rattle.trial.specs.Poop.{with_poop}
 use Rattle.question.specs.Question.{Reply, reply_in}
-use Rattle.figures.specs.Figures.{Row, row, one, k1, k2, particulars, forecastle, present, bow_height_of, deduction_of, refusal_of, marks_row, asked_row, set_in, house}
+use Rattle.figures.specs.Figures.{Row, row, one, k1, k2, particulars, forecastle, deduction_of, refusal_of, marks_row, asked_row, set_in, house}
 
 -- ---- §1: number, place and overlap, of houses on a ship of 90 m, from aft to fore each
 abbrev pub refusal_row : ℕ → Paper → List ℕ → Row
@@ -62,18 +56,18 @@ unfoldable pub r4 : List ℕ
 r4 = 0x14 ∷ 0x40 ∷ 0x1d ∷ 0x4c ∷ 0x01 ∷ 0xb5 ∷ 0x81 ∷ 0xb5 ∷ 0x86 ∷ 0xa4 ∷ hull_forms ++ forward
 
 abbrev pub asked4 : ℕ → Reply
-asked4 wish = reply_in present r4 2300 wish
+asked4 wish = reply_in r4 2300 wish
 
 -- ---- §5: L 120 m, D = M = 8000, by the two bytes that have version, type and n: A and B in version 1, the others in version 2. sample/b60.record is the third
 unfoldable pub long5 : ℕ → ℕ → List ℕ
 long5 a b = a ∷ b ∷ 0x1d ∷ 0x4c ∷ 0x01 ∷ 0xf4 ∷ 0x01 ∷ 0xf4 ∷ 0x06 ∷ 0xa4 ∷ hull_forms
 
 -- S of a record by the marks call: 0 if it is refused
-abbrev pub summer_in : Rules → List ℕ → ℕ
-summer_in r s = (sheet_in r s).marks.s
+abbrev pub summer_in : List ℕ → ℕ
+summer_in s = (sheet_in s).marks.s
 
-abbrev pub summer5 : Rules → ℕ → ℕ → ℕ
-summer5 r a b = summer_in r (long5 a b ++ forward)
+abbrev pub summer5 : ℕ → ℕ → ℕ
+summer5 a b = summer_in (long5 a b ++ forward)
 
 -- with portable covers and Cb 0.8
 unfoldable pub full5 : List ℕ
@@ -119,7 +113,7 @@ alone6 breadth beam = listed (set_in 20000 30000 2000 breadth beam ∷ [])
 abbrev pub granted6 : ℕ → ℕ → ℕ
 granted6 breadth beam =
     let h = set_in 83300 90000 2000 breadth beam in
-    deducted 90000 (all_or_nothing true (exact_effective 90000 h) 90000 (exact_share ordinary_row 90000 (whole (effective_length 90000 (h ∷ [])))))
+    deducted true ordinary_row (exact_effective 90000 h) 90000 (effective_length 90000 (h ∷ []))
 
 -- ---- §8: the borders of its cancelling. The mean of a ship of 90 m, by its after sum in mm: 50 and 75 per cent of standard are 1334 and 2001 mm. The forward
 -- sum is 800 mm above standard, an excess of 100 mm
@@ -145,9 +139,6 @@ timber_marks_row k a stated =
       given = map pos (refusal_of a.ordinary.verdict) ++ (t.ls ∷ t.lt ∷ t.lw ∷ pos t.lwna ∷ t.lf ∷ t.ltf ∷ []);
       stated = map pos (0 ∷ 0 ∷ 0 ∷ []) ++ stated;
     }
-
-abbrev pub ls_row : ℕ → Sheet → ℕ → Row
-ls_row k a ls = record { figure = k; given = a.timber.ls ∷ []; stated = pos ls ∷ [] }
 
 abbrev pub less : ℕ → ℤ
 less mm = pos 0 -ℤ pos mm
@@ -186,43 +177,6 @@ covers9 =
 unfoldable pub depth9 : ℕ → List ℕ
 depth9 d = 0x44 ∷ 0x10 ∷ 0x1d ∷ 0x4c ∷ 0x00 ∷ 0x6b ∷ d ∷ 0x7d ∷ 0x06 ∷ 0xd6 ∷ 0x27 ∷ 0x10 ∷ drop 2 hull_forms
 
--- ---- §10: by the rules of 1966
-abbrev pub older : Rules
-older = rules_of Of1966
-
--- 37's share, in millionths
-abbrev pub share_in : Ship → ℕ
-share_in x = millionths (share_of older (older.lines (type_b x)) x)
-
--- of a ship of 90 m whose houses have an E of half its length, with a forecastle of 10 m and a bridge of so many um; and by line I alone with a forecastle of so
--- many, of type B or A
-abbrev pub half10 : ℕ → ℕ
-half10 bridge =
-    millionths (older.granted true (whole 10000000) 90000 (exact_share_by (older.lines true) (bridge_part (whole 10000000) (whole bridge) 90000) 90000 (whole 45000000)))
-
-abbrev pub granted10 : Bool → ℕ → ℕ
-granted10 type_b f = millionths (older.granted type_b (whole f) 90000 (exact_share older_row 90000 (whole 45000000)))
-
--- a forecastle that is more than 0.4 L, 44 m, by less than a um
-abbrev pub long10 : House
-long10 = house 62077 110000 1974
-
--- the bridge of a ship of 90 m between a poop and a forecastle, by its ends
-abbrev pub bridge10 : ℕ → ℕ → ℕ
-bridge10 aft fore = bridge_length 90000 (house 0 20000 2000 ∷ house aft fore 2000 ∷ house 80000 90000 2000 ∷ [])
-
--- an open house that touches a house from 30 m on
-unfoldable pub open10 : House
-open10 = record {
-  enclosed = false;
-  quarterdeck = false;
-  aft = record { 0 = station_of 20000 };
-  fore = record { 0 = station_of 30000 };
-  height = record { 0 = 2000 };
-  breadth = record { 0 = 0 };
-  beam = record { 0 = 0 };
-}
-
 -- ---- the table. The long questions stand last: each of their searches goes over more than 900 lengths
 unfoldable pub requests : List Row
 requests =
@@ -237,8 +191,8 @@ requests =
     ∷ refusal_row 1 (listed (house 20000 30000 2000 ∷ house 10000 15000 2000 ∷ house 14000 18000 2000 ∷ [])) (18 ∷ 1 ∷ 0 ∷ [])
     ∷ refusal_row 1 (reading_in r1).verdict (11 ∷ 1 ∷ 10000 ∷ [])
     ∷ refusal_row 1 (writing_of 91 (ship_in r1)) (11 ∷ 1 ∷ 10000 ∷ [])
-    ∷ marks_row 1 (sheet_in present r1) (11 ∷ 1 ∷ 10000 ∷ 0 ∷ 0 ∷ 0 ∷ 0 ∷ 0 ∷ 0 ∷ [])
-    ∷ asked_row 1 (reply_in present r1 1950 1000) (11 ∷ 1 ∷ 10000 ∷ 0 ∷ [])
+    ∷ marks_row 1 (sheet_in r1) (11 ∷ 1 ∷ 10000 ∷ 0 ∷ 0 ∷ 0 ∷ 0 ∷ 0 ∷ 0 ∷ [])
+    ∷ asked_row 1 (reply_in r1 1950 1000) (11 ∷ 1 ∷ 10000 ∷ 0 ∷ [])
     ∷ one 2 (effective_length 100000 (house 0 10001 1000 ∷ house 20000 30002 1000 ∷ house 95000 100000 1000 ∷ [])) 12196585
     ∷ one 4 (depth_takes 90212 5000 (house 18000 90112 1001 ∷ [])) 97734
     ∷ one 4 (depth_takes 120000 7000 (house 24000 96000 2250 ∷ [])) 250000
@@ -246,8 +200,8 @@ requests =
     ∷ one 4 (depth_takes 120000 7000 (house 24001 96000 2250 ∷ [])) 0
     ∷ one 4 (depth_takes 120000 8000 (house 24000 96000 2250 ∷ [])) 0
     ∷ one 4 (depth_takes 120000 7999 (house 24000 96000 2250 ∷ [])) 250
-    ∷ one 4 (summer_of present (with_poop 2300 959 (ship_in r4))) 785
-    ∷ one 4 (summer_of present (with_poop 2300 960 (ship_in r4))) 534
+    ∷ one 4 (summer_of (with_poop 2300 959 (ship_in r4))) 785
+    ∷ one 4 (summer_of (with_poop 2300 960 (ship_in r4))) 534
     ∷ one 5 (covers_add 24000) 50000
     ∷ one 5 (covers_add 108000) 50000
     ∷ one 5 (covers_add 108500) 51000
@@ -259,15 +213,15 @@ requests =
     ∷ one 5 (line5 kind_b60) 1551400
     ∷ one 5 (line5 kind_b100) 1459000
     ∷ one 5 (line5 kind_covers) 1774000
-    ∷ one 5 (summer5 present 0x10 0x40) 1398
-    ∷ one 5 (summer5 present 0x14 0x40) 1629
-    ∷ one 5 (summer5 present 0x24 0x20) 1490
-    ∷ one 5 (summer5 present 0x26 0x20) 1398
-    ∷ one 5 (summer5 present 0x28 0x20) 1713
-    ∷ one 5 (summer_in present full5) 1869
-    ∷ one 5 (summer_in present (short5 0x10 0x80)) 1281
-    ∷ one 5 (summer_in present (short5 0x26 0x40)) 1446
-    ∷ marks_row 5 (sheet_in present covered5) (0 ∷ 0 ∷ 0 ∷ 1074 ∷ 972 ∷ 1177 ∷ 1227 ∷ 972 ∷ 870 ∷ [])
+    ∷ one 5 (summer5 0x10 0x40) 1398
+    ∷ one 5 (summer5 0x14 0x40) 1629
+    ∷ one 5 (summer5 0x24 0x20) 1490
+    ∷ one 5 (summer5 0x26 0x20) 1398
+    ∷ one 5 (summer5 0x28 0x20) 1713
+    ∷ one 5 (summer_in full5) 1869
+    ∷ one 5 (summer_in (short5 0x10 0x80)) 1281
+    ∷ one 5 (summer_in (short5 0x26 0x40)) 1446
+    ∷ marks_row 5 (sheet_in covered5) (0 ∷ 0 ∷ 0 ∷ 1074 ∷ 972 ∷ 1177 ∷ 1227 ∷ 972 ∷ 870 ∷ [])
     ∷ refusal_row 5 (reading_in (other5 0x24 0x18 0x6a 0x01)).verdict (22 ∷ 0 ∷ 0 ∷ [])
     ∷ refusal_row 5 (reading_in (other5 0x24 0x18 0x6a 0x11)).verdict (0 ∷ 0 ∷ 0 ∷ [])
     ∷ refusal_row 5 (reading_in (other5 0x26 0x18 0x6a 0x01)).verdict (22 ∷ 0 ∷ 0 ∷ [])
@@ -282,12 +236,12 @@ requests =
     ∷ refusal_row 5 (reading_in second5).verdict (0 ∷ 0 ∷ 0 ∷ [])
     ∷ row 5 (record_bytes (ship_in second5)) k1
     ∷ row 5 (record_bytes (ship_in covered5)) covered5
-    ∷ asked_row 5 (reply_in present covered5 1950 1000) (0 ∷ 0 ∷ 0 ∷ 96 ∷ [])
+    ∷ asked_row 5 (reply_in covered5 1950 1000) (0 ∷ 0 ∷ 0 ∷ 96 ∷ [])
     ∷ one 6 (effective_e (ship_in (sides6 0x25 0x1c))) 9500000
-    ∷ one 6 (deduction_of present (ship_in (sides6 0x25 0x1c))) 65640
-    ∷ one 6 (summer_in present (sides6 0x25 0x1c)) 1028
-    ∷ one 6 (summer_in present (sides6 0x23 0xf0)) 1031
-    ∷ marks_row 6 (sheet_in present (sides6 0x23 0xef)) (23 ∷ 0 ∷ 0 ∷ 0 ∷ 0 ∷ 0 ∷ 0 ∷ 0 ∷ 0 ∷ [])
+    ∷ one 6 (deduction_of (ship_in (sides6 0x25 0x1c))) 65640
+    ∷ one 6 (summer_in (sides6 0x25 0x1c)) 1028
+    ∷ one 6 (summer_in (sides6 0x23 0xf0)) 1031
+    ∷ marks_row 6 (sheet_in (sides6 0x23 0xef)) (23 ∷ 0 ∷ 0 ∷ 0 ∷ 0 ∷ 0 ∷ 0 ∷ 0 ∷ 0 ∷ [])
     ∷ one 6 (effective_length 100000 (set_in 0 10001 1000 9000 9000 ∷ house 20000 30002 1000 ∷ house 95000 100000 1000 ∷ [])) 12196584
     ∷ one 6 (effective_length 100000 (house 0 10001 1000 ∷ set_in 20000 30002 1000 1 1 ∷ house 95000 100000 1000 ∷ [])) 12196584
     ∷ one 6 (effective_length 100000 (house 0 10001 1000 ∷ house 20000 30002 1000 ∷ set_in 95000 100000 1000 65535 65535 ∷ [])) 12196584
@@ -315,19 +269,19 @@ requests =
     ∷ one 8 (over8 2002) 8375
     ∷ one 8 flat8 375192
     ∷ one 8 unrounded8 375191
-    ∷ timber_marks_row 9 (answer_in present bare9) (pos 1102 ∷ pos 1000 ∷ pos 1239 ∷ pos 2163 ∷ pos 1000 ∷ pos 898 ∷ [])
-    ∷ timber_marks_row 9 (answer_in present (flagged9 0x42 0x30)) (pos 807 ∷ pos 699 ∷ pos 952 ∷ pos 1178 ∷ pos 699 ∷ pos 591 ∷ [])
-    ∷ marks_row 9 (sheet_in present (flagged9 0x42 0x30)) (0 ∷ 0 ∷ 0 ∷ 1024 ∷ 921 ∷ 1128 ∷ 1178 ∷ 921 ∷ 818 ∷ [])
-    ∷ timber_marks_row 9 (answer_in present (flagged9 0x42 0x20)) (pos 0 ∷ pos 0 ∷ pos 0 ∷ pos 0 ∷ pos 0 ∷ pos 0 ∷ [])
-    ∷ timber_marks_row 9 (answer_in present (flagged9 0x48 0x30)) (pos 857 ∷ pos 750 ∷ pos 1000 ∷ pos 1227 ∷ pos 750 ∷ pos 643 ∷ [])
-    ∷ timber_marks_row 9 (answer_in present reduced9) (pos 1382 ∷ pos 1245 ∷ pos 1536 ∷ pos 1536 ∷ pos 1245 ∷ pos 1108 ∷ [])
-    ∷ timber_marks_row 9 (answer_in present low9) (less 154 ∷ less 244 ∷ less 33 ∷ pos 187 ∷ less 244 ∷ less 334 ∷ [])
-    ∷ one 9 (summer_in present low9) 50
-    ∷ timber_marks_row 9 (answer_in present covers9) (less 80 ∷ less 169 ∷ pos 39 ∷ pos 285 ∷ less 169 ∷ less 258 ∷ [])
-    ∷ one 9 (summer_in present covers9) 150
-    ∷ timber_marks_row 9 (answer_in present (depth9 0x40)) (pos 1715 ∷ pos 1715 ∷ pos 1578 ∷ pos 1578 ∷ pos 1715 ∷ pos 1715 ∷ [])
-    ∷ timber_marks_row 9 (answer_in present (depth9 0x30)) (pos 0 ∷ pos 0 ∷ pos 0 ∷ pos 0 ∷ pos 0 ∷ pos 0 ∷ [])
-    ∷ one 9 (summer_in present (depth9 0x30)) 1575
+    ∷ timber_marks_row 9 (answer_in bare9) (pos 1102 ∷ pos 1000 ∷ pos 1239 ∷ pos 2163 ∷ pos 1000 ∷ pos 898 ∷ [])
+    ∷ timber_marks_row 9 (answer_in (flagged9 0x42 0x30)) (pos 807 ∷ pos 699 ∷ pos 952 ∷ pos 1178 ∷ pos 699 ∷ pos 591 ∷ [])
+    ∷ marks_row 9 (sheet_in (flagged9 0x42 0x30)) (0 ∷ 0 ∷ 0 ∷ 1024 ∷ 921 ∷ 1128 ∷ 1178 ∷ 921 ∷ 818 ∷ [])
+    ∷ timber_marks_row 9 (answer_in (flagged9 0x42 0x20)) (pos 0 ∷ pos 0 ∷ pos 0 ∷ pos 0 ∷ pos 0 ∷ pos 0 ∷ [])
+    ∷ timber_marks_row 9 (answer_in (flagged9 0x48 0x30)) (pos 857 ∷ pos 750 ∷ pos 1000 ∷ pos 1227 ∷ pos 750 ∷ pos 643 ∷ [])
+    ∷ timber_marks_row 9 (answer_in reduced9) (pos 1382 ∷ pos 1245 ∷ pos 1536 ∷ pos 1536 ∷ pos 1245 ∷ pos 1108 ∷ [])
+    ∷ timber_marks_row 9 (answer_in low9) (less 154 ∷ less 244 ∷ less 33 ∷ pos 187 ∷ less 244 ∷ less 334 ∷ [])
+    ∷ one 9 (summer_in low9) 50
+    ∷ timber_marks_row 9 (answer_in covers9) (less 80 ∷ less 169 ∷ pos 39 ∷ pos 285 ∷ less 169 ∷ less 258 ∷ [])
+    ∷ one 9 (summer_in covers9) 150
+    ∷ timber_marks_row 9 (answer_in (depth9 0x40)) (pos 1715 ∷ pos 1715 ∷ pos 1578 ∷ pos 1578 ∷ pos 1715 ∷ pos 1715 ∷ [])
+    ∷ timber_marks_row 9 (answer_in (depth9 0x30)) (pos 0 ∷ pos 0 ∷ pos 0 ∷ pos 0 ∷ pos 0 ∷ pos 0 ∷ [])
+    ∷ one 9 (summer_in (depth9 0x30)) 1575
     ∷ refusal_row 9 (reading_in (flagged9 0x40 0x30)).verdict (24 ∷ 0 ∷ 0 ∷ [])
     ∷ refusal_row 9 (reading_in (flagged9 0x41 0x30)).verdict (24 ∷ 0 ∷ 0 ∷ [])
     ∷ refusal_row 9 (writing_of 0 (ship_in (flagged9 0x41 0x30))) (24 ∷ 0 ∷ 0 ∷ [])
@@ -339,47 +293,6 @@ requests =
     ∷ refusal_row 9 (reading_in (flagged9 0x52 0x30)).verdict (2 ∷ 0 ∷ 0 ∷ [])
     ∷ row 9 (record_bytes (ship_in (flagged9 0x42 0x30))) (flagged9 0x42 0x30)
     ∷ row 9 (record_bytes (ship_in (flagged9 0x42 0x20))) k2
-    ∷ one 10 (bow_height_of older (ship_in k1)) 4132800
-    ∷ marks_row 10 (sheet_in older k1) (0 ∷ 0 ∷ 0 ∷ 2133 ∷ 2053 ∷ 2214 ∷ 2264 ∷ 2053 ∷ 1973 ∷ [])
-    ∷ one 10 (share_in (ship_in k2)) 55555
-    ∷ marks_row 10 (sheet_in older k2) (0 ∷ 0 ∷ 0 ∷ 1044 ∷ 941 ∷ 1148 ∷ 1198 ∷ 941 ∷ 838 ∷ [])
-    ∷ one 10 (millionths (share_of older timber_lines (ship_in k1))) 150000
-    ∷ ls_row 10 (answer_in older bare9) 968
-    ∷ ls_row 10 (answer_in older (flagged9 0x42 0x30)) 807
-    ∷ one 10 (summer5 older 0x10 0x40) 1398
-    ∷ one 10 (summer5 older 0x14 0x40) 1646
-    ∷ one 10 (summer5 older 0x24 0x20) 1508
-    ∷ one 10 (summer5 older 0x26 0x20) 1415
-    ∷ one 10 (summer5 older 0x28 0x20) 1730
-    ∷ one 10 (floor (exact_effective 110000 long10)) 44000000
-    ∷ one 10 (bridge_part (exact_effective 110000 long10) (whole 0) 110000).top 1
-    ∷ one 10 (bridge_part (whole 44000000) (whole 0) 110000).top 0
-    ∷ one 10 (half10 0) 320000
-    ∷ one 10 (half10 9000000) 340000
-    ∷ one 10 (half10 18000000) 360000
-    ∷ one 10 (half10 27000000) 360000
-    ∷ one 10 (granted10 true 0) 270000
-    ∷ one 10 (granted10 true 3150000) 295000
-    ∷ one 10 (granted10 true 6300000) 320000
-    ∷ one 10 (granted10 false 0) 320000
-    ∷ one 10 (bridge10 30000 40000) 10000000
-    ∷ one 10 (bridge10 20001 40000) 19999000
-    ∷ one 10 (bridge10 20000 40000) 0
-    ∷ one 10 (bridge10 70000 80000) 0
-    ∷ one 10 (bridge_length 90000 (house 1 20000 2000 ∷ [])) 19999000
-    ∷ one 10 (bridge_length 90000 (house 0 20000 2000 ∷ [])) 0
-    ∷ one 10 (bridge_length 90000 (house 70000 90000 2000 ∷ [])) 0
-    ∷ one 10 (bridge_length 90000 (house 10000 20000 2000 ∷ house 30000 45000 2000 ∷ [])) 15000000
-    ∷ one 10 (bridge_length 90000 (house 0 20000 2000 ∷ open10 ∷ house 30000 45000 2000 ∷ [])) 15000000
-    ∷ one 10 (Bow.older 90000 6799) 4132800
-    ∷ one 10 (Bow.older 90000 6801) 4132497
-    ∷ one 10 (Bow.older 200000 6800) 6720000
-    ∷ one 10 (Bow.older 300000 6800) 7000000
-    ∷ asked_row 10 (reply_in older k2 1950 1044) (0 ∷ 0 ∷ 0 ∷ 0 ∷ [])
-    ∷ one 10 (summer_of older (with_poop 1950 75 (ship_in k2))) 1001
-    ∷ one 10 (summer_of older (with_poop 1950 76 (ship_in k2))) 1000
-    ∷ one 10 (older.counted 12000) 12000
-    ∷ one 10 (present.counted 12000) 10000
     ∷ asked_row 4 (asked4 785) (0 ∷ 0 ∷ 0 ∷ 959 ∷ [])
     ∷ asked_row 4 (asked4 784) (0 ∷ 0 ∷ 0 ∷ 960 ∷ [])
     ∷ asked_row 4 (asked4 534) (0 ∷ 0 ∷ 0 ∷ 960 ∷ [])

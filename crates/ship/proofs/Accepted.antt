@@ -20,13 +20,13 @@ use Rattle.ship.specs.Kinds.{kind_b60, kind_b100, kind_covers}
 use Rattle.ship.specs.Checks.{least, most, outside, fields_of, field_out, reduced_short, covers_long, one_alone, bad_ends, bad_breadths, bad_quarterdeck, fore_before, breaks, breach_at, first_breach, house_lines, ship_lines}
 use Rattle.ship.specs.Good.{Good, GoodHouses}
 use Rattle.ship.proofs.First.{none_before}
-use Rattle.ship.proofs.Lines.{or-false, all_pass, first_passed}
+use Rattle.ship.proofs.Lines.{or_false, all_pass, first_passed}
 
 -- 7: a field before the first that is outside is in its range
 pub in_range : (fields : List ℕ) (k : ℕ) → k < field_out fields → (get_or least k 0 ≤ get_or fields k 0) × (get_or fields k 0 ≤ get_or most k 0)
 unfolding field_out
 in_range fields k h =
-    let e = or-false (ltb (get_or fields k 0) (get_or least k 0)) (ltb (get_or most k 0) (get_or fields k 0)) (none_before (outside fields) 0 13 k (omega arith) h) in
+    let e = or_false (ltb (get_or fields k 0) (get_or least k 0)) (ltb (get_or most k 0) (get_or fields k 0)) (none_before (outside fields) 0 13 k (omega arith) h) in
     (ltb-false (get_or fields k 0) (get_or least k 0) e.0, ltb-false (get_or most k 0) (get_or fields k 0) e.1)
 
 -- 9 to 11, 18 and 23: a house before the first breach breaks no rule
@@ -41,12 +41,12 @@ module _ (l : ℕ) (h : House) where
       let a = h.aft.0 in
       let f = h.fore.0 in
       let t = h.height.0 in
-      let s = or-false (leb f a || leb f (station_of 0) || leb (station_of l) a || ltb a (station_of 0 - 20000) || ltb (station_of (l + 20000)) f || ltb t 1) (ltb 8191 t) e in
-      let u = or-false (leb f a || leb f (station_of 0) || leb (station_of l) a || ltb a (station_of 0 - 20000) || ltb (station_of (l + 20000)) f) (ltb t 1) s.0 in
-      let v = or-false (leb f a || leb f (station_of 0) || leb (station_of l) a || ltb a (station_of 0 - 20000)) (ltb (station_of (l + 20000)) f) u.0 in
-      let w = or-false (leb f a || leb f (station_of 0) || leb (station_of l) a) (ltb a (station_of 0 - 20000)) v.0 in
-      let x = or-false (leb f a || leb f (station_of 0)) (leb (station_of l) a) w.0 in
-      let y = or-false (leb f a) (leb f (station_of 0)) x.0 in (
+      let s = or_false (leb f a || leb f (station_of 0) || leb (station_of l) a || ltb a (station_of 0 - 20000) || ltb (station_of (l + 20000)) f || ltb t 1) (ltb 8191 t) e in
+      let u = or_false (leb f a || leb f (station_of 0) || leb (station_of l) a || ltb a (station_of 0 - 20000) || ltb (station_of (l + 20000)) f) (ltb t 1) s.0 in
+      let v = or_false (leb f a || leb f (station_of 0) || leb (station_of l) a || ltb a (station_of 0 - 20000)) (ltb (station_of (l + 20000)) f) u.0 in
+      let w = or_false (leb f a || leb f (station_of 0) || leb (station_of l) a) (ltb a (station_of 0 - 20000)) v.0 in
+      let x = or_false (leb f a || leb f (station_of 0)) (leb (station_of l) a) w.0 in
+      let y = or_false (leb f a) (leb f (station_of 0)) x.0 in (
         leb-false f a y.0,
         leb-false f (station_of 0) y.1,
         leb-false (station_of l) a x.1,
@@ -60,18 +60,18 @@ module _ (l : ℕ) (h : House) where
   breadths_of_lem e =
       let b = h.breadth.0 in
       let s = h.beam.0 in
-      let t = or-false (one_alone b s || ltb s b || ltb (25 * b) (23 * s) || ltb 65535 b) (ltb 65535 s) e in
-      let u = or-false (one_alone b s || ltb s b || ltb (25 * b) (23 * s)) (ltb 65535 b) t.0 in
-      let v = or-false (one_alone b s || ltb s b) (ltb (25 * b) (23 * s)) u.0 in
-      let w = or-false (one_alone b s) (ltb s b) v.0 in
+      let t = or_false (one_alone b s || ltb s b || ltb (25 * b) (23 * s) || ltb 65535 b) (ltb 65535 s) e in
+      let u = or_false (one_alone b s || ltb s b || ltb (25 * b) (23 * s)) (ltb 65535 b) t.0 in
+      let v = or_false (one_alone b s || ltb s b) (ltb (25 * b) (23 * s)) u.0 in
+      let w = or_false (one_alone b s) (ltb s b) v.0 in
       (ltb-false s b w.1, ltb-false (25 * b) (23 * s) v.1, ltb-false 65535 s t.1)
 
   deck_of_lem : bad_quarterdeck l h ≡ false → h.quarterdeck ≡ true → (h.enclosed ≡ true) × (h.aft.0 ≤ station_of 0) × (h.fore.0 < station_of l)
   deck_of_lem e q =
       let b : (not h.enclosed || ltb (station_of 0) h.aft.0 || leb (station_of l) h.fore.0) ≡ false =
       sym (ap (λ (d : Bool). d && (not h.enclosed || ltb (station_of 0) h.aft.0 || leb (station_of l) h.fore.0)) q) ∙ e in
-      let s = or-false (not h.enclosed || ltb (station_of 0) h.aft.0) (leb (station_of l) h.fore.0) b in
-      let t = or-false (not h.enclosed) (ltb (station_of 0) h.aft.0) s.0 in
+      let s = or_false (not h.enclosed || ltb (station_of 0) h.aft.0) (leb (station_of l) h.fore.0) b in
+      let t = or_false (not h.enclosed) (ltb (station_of 0) h.aft.0) s.0 in
       (not-false h.enclosed t.0, ltb-false (station_of 0) h.aft.0 t.1, leb-false (station_of l) h.fore.0 s.1)
 
 pub good_houses : (l : ℕ) (hs : List House) → (first (house_lines l hs)).number ≡ 0 → GoodHouses l hs
@@ -137,7 +137,7 @@ covers_of kind l e k = ltb-false 200000 l (sym (ap (λ (c : ℕ). covers_long c 
 pub good : (x : Ship) → (first (ship_lines x)).number ≡ 0 → Good x
 good x e =
     let p = all_pass (ship_lines x) (omega arith) e in
-    let w = or-false (reduced_short x.kind x.length.0) (covers_long x.kind x.length.0) p.1.0 in
+    let w = or_false (reduced_short x.kind x.length.0) (covers_long x.kind x.length.0) p.1.0 in
     let r : (k : ℕ) → k < 13 → (get_or least k 0 ≤ get_or (fields_of x) k 0) × (get_or (fields_of x) k 0 ≤ get_or most k 0) =
     λ k h. in_range (fields_of x) k (omega (arith, ltb-false (field_out (fields_of x)) 13 p.0)) in
     record {

@@ -84,6 +84,6 @@ pub first_accepted : (ts us : List Line) → Numbered ts → first ts ≡ accept
 unfolding pick
 first_accepted ts us m e = first_append ts us m ∙ rw e refl
 
-pub or-false : (a b : Bool) → (a || b) ≡ false → (a ≡ false) × (b ≡ false)
-or-false true b e = absurd (let z : ◌≡◌ {A = ℕ} 0 1 = cc in omega arith)
-or-false false b e = (refl, e)
+pub or_false : (a b : Bool) → (a || b) ≡ false → (a ≡ false) × (b ≡ false)
+or_false true b e = absurd (let z : ◌≡◌ {A = ℕ} 0 1 = cc in omega arith)
+or_false false b e = (refl, e)

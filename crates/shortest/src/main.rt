@@ -1,8 +1,7 @@
-// The shortest poop of the record on standard input: shortest HEIGHT WISH, both in millimetres, and behind them 1966 for the older edition.
+// The shortest poop of the record on standard input: shortest HEIGHT WISH, both in millimetres.
 #![tactic(auto)]
 
 use decimal::Parsed;
-use edition::Edition;
 use libc::STDIN_FILENO;
 use question::Answer;
 
@@ -13,10 +12,10 @@ fn argument(i: usize) -> Parsed {
 }
 
 // The longest record has 123 bytes; one more tells every longer input from a record.
-fn answer(edition: Edition, height: u64, wish: u64) {
+fn answer(height: u64, wish: u64) {
     let mut buf = [0u8; 124];
     let n = io::read_full(STDIN_FILENO, &mut buf);
-    let a = poop::of_record(edition, &buf[..n], height, wish);
+    let a = poop::of_record(&buf[..n], height, wish);
     match a {
         Answer::Poop(k) => {
             show::text(b"poop");
@@ -28,11 +27,8 @@ fn answer(edition: Edition, height: u64, wish: u64) {
 }
 
 fn main() {
-    let n = os::arg_count();
-    if (n < 3) | (4 < n) {
-        show::text(
-            b"shortest: two arguments are needed, HEIGHT and WISH, and a third may be 1966\n",
-        );
+    if os::arg_count() != 3 {
+        show::text(b"shortest: two arguments are needed, HEIGHT and WISH\n");
         return;
     }
     let Parsed::Number(height) = argument(1) else {
@@ -43,15 +39,5 @@ fn main() {
         show::text(b"shortest: WISH is a whole number of millimetres below 2^64\n");
         return;
     };
-    if n == 3 {
-        answer(Edition::Of2003, height, wish);
-        return;
-    }
-    if !files::is_1966(3) {
-        show::text(
-            b"shortest: the third argument is 1966, for that edition; without it the edition is that of 2003\n",
-        );
-        return;
-    }
-    answer(Edition::Of1966, height, wish);
+    answer(height, wish);
 }

@@ -2,21 +2,18 @@
 use mathlib.Core.Path.{◌≡◌}
 use mathlib.Core.Bool.{Bool, true, false}
 use mathlib.Core.List.{List}
-use Prim.Native.Nat.{ℕ, suc, ◌+◌, ◌*◌, max}
+use Prim.Native.Nat.{ℕ, suc, ◌+◌, ◌*◌}
 use native.Mathlib.Omega.{arith}
 use lib.Dec.{ltb}
-use borrow.Author.Tests.{ltb-true}
 use Rattle.whole.specs.Pick.{pick}
-use Rattle.whole.specs.Frac.{Frac, ◌≤f◌, ◌+f◌, ◌*f◌, ◌-f◌, ◌÷f◌, whole, frac}
-use Rattle.whole.proofs.Pick.{by_both, same_test}
+use Rattle.whole.specs.Frac.{Frac, ◌≤f◌, ◌+f◌, ◌*f◌, ◌-f◌, whole, frac}
+use Rattle.whole.proofs.Pick.{same_test}
 use Rattle.units.specs.declared.Ordinate.{Ordinate}
 use Rattle.units.specs.Datum.{lift, sheer_at}
-use Rattle.edition.specs.declared.Edition.{Edition}
-use Rattle.edition.specs.declared.Edition.TheVariants.{Of2003, Of1966}
 use Rattle.bow.specs.Bow as Bow
 use Rattle.bow.proofs.Cubic.{cubic_sum}
-use Rattle.signed.specs.Signed.{Signed, ◌≈s◌, ◌<s?◌, plain, nil, ◌+s◌, ◌-s◌, ◌*s◌}
-use Rattle.signed.specs.Formula.{ordinate, b1, b2, older, bow_height, sheer_taken, bow}
+use Rattle.signed.specs.Signed.{◌≈s◌, ◌<s?◌, plain, nil, ◌+s◌, ◌-s◌, ◌*s◌}
+use Rattle.signed.specs.Formula.{ordinate, b1, b2, sheer_taken, bow}
 use Rattle.signed.proofs.Laws.{refl≈s, sym≈s, trans≈s, -s-same, *s_same, plain_product, plain_less, both_parts}
 
 -- ---- b1 is never below zero
@@ -53,31 +50,6 @@ b2_parts L M cb cwf =
 factor_first : (k x y : Frac) → plain k *s (plain x -s plain y) ≈s plain (k *f x) -s plain (k *f y)
 factor_first k x y = omega arith
 
--- ---- 1966's height is never below zero: up to 250 m, L/500 is below 1
-older_plain : (L cb : ℕ) → older L cb ≈s plain (Bow.exact_older L cb)
-unfolding older Bow.exact_older
-older_plain L cb =
-    let c = frac 136 100 ÷f (frac (max cb 6800) 10000 +f frac 68 100) in
-    let p = whole 56 *f whole L in
-    let q = frac L 500000 in
-    trans≈s
-    (*s_same
-    (by_both (λ (x : Signed) (y : Frac). x ≈s plain y) (ltb L 250000) (plain p *s (plain (whole 1) -s plain q)) (plain (whole 7000000)) (p *f (whole 1 -f q)) (whole 7000000)
-    (λ t. let less : q ≤f whole 1 = omega (arith, ltb-true L 250000 t) in
-    trans≈s (*s_same (refl≈s (plain p)) (sym≈s (plain_less (whole 1) q less))) (sym≈s (plain_product p (whole 1 -f q))))
-    (λ t. refl≈s (plain (whole 7000000))))
-    (refl≈s (plain c)))
-    (sym≈s (plain_product (pick (ltb L 250000) (p *f (whole 1 -f q)) (whole 7000000)) c))
-
--- ---- the height that an edition asks for
-less_nothing : (x : Frac) → plain x ≈s plain x -s plain (whole 0)
-less_nothing x = omega arith
-
-pub height_signed : (e : Edition) (L M cb cwf : ℕ) → bow_height e L M cb cwf ≈s plain (Bow.exact_asked_above e L M cb cwf) -s plain (Bow.exact_asked_below e L M cb cwf)
-height_signed Of2003 L M cb cwf =
-    trans≈s (*s_same (b1_plain L) (b2_parts L M cb cwf)) (factor_first (Bow.exact_b1 L) (Bow.exact_b2_above L M cb cwf) (Bow.exact_b2_below L M cb cwf))
-height_signed Of1966 L M cb cwf = trans≈s (older_plain L cb) (less_nothing (Bow.exact_older L cb))
-
 -- ---- the sheer at FP, of which bow's own is lifted
 above_zero : (n : ℕ) → (nil <s? plain (whole n) -s plain (whole lift)) ≡ ltb lift n
 above_zero n =
@@ -100,12 +72,16 @@ all_taken : (x y : Frac) (f l h : ℕ)
     → plain x -s plain y -s (plain (whole f) -s plain (whole l)) -s plain (whole h) ≈s plain (x +f whole l) -s plain (y +f whole (f + h))
 all_taken x y f l h = omega arith
 
-pub bow_signed : (above below : Frac) (asked : Signed) → asked ≈s plain above -s plain below → (o : List Ordinate) (L l height : ℕ)
-    → bow asked o L l height
-    ≈s plain (above +f whole (Bow.sheer_taken (sheer_at o 4) lift))
-    -s plain (below +f whole (Bow.sheer_taken (sheer_at o 4) (sheer_at o 5) + Bow.forecastle_taken L l height))
+pub bow_signed : (o : List Ordinate) (L M cb cwf l height : ℕ)
+    → bow o L M cb cwf l height
+    ≈s plain (Bow.exact_b1 L *f Bow.exact_b2_above L M cb cwf +f whole (Bow.sheer_taken (sheer_at o 4) lift))
+    -s plain (Bow.exact_b1 L *f Bow.exact_b2_below L M cb cwf +f whole (Bow.sheer_taken (sheer_at o 4) (sheer_at o 5) + Bow.forecastle_taken L l height))
 unfolding bow
-bow_signed above below asked p o L l height =
+bow_signed o L M cb cwf l height =
+    let k = Bow.exact_b1 L in
+    let x = Bow.exact_b2_above L M cb cwf in
+    let y = Bow.exact_b2_below L M cb cwf in
     let f = Bow.forecastle_taken L l height in
+    let p = trans≈s (*s_same (b1_plain L) (b2_parts L M cb cwf)) (factor_first k x y) in
     trans≈s (-s-same (-s-same p (sheer_taken_lem o)) (refl≈s (plain (whole f))))
-    (all_taken above below (Bow.sheer_taken (sheer_at o 4) (sheer_at o 5)) (Bow.sheer_taken (sheer_at o 4) lift) f)
+    (all_taken (k *f x) (k *f y) (Bow.sheer_taken (sheer_at o 4) (sheer_at o 5)) (Bow.sheer_taken (sheer_at o 4) lift) f)

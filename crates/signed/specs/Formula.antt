@@ -1,11 +1,9 @@
 -- Depth (31), sheer (38) and bow height (39) as the papers write them, with signs: no difference stops at zero, and nothing is in two parts. Freeboards in um.
-use Rattle.std.specs.Prelude.{ℕ, ◌*◌, max, ◌&&◌, List, ltb}
+use Rattle.std.specs.Prelude.{ℕ, ◌*◌, ◌&&◌, List}
 use Rattle.whole.specs.Pick.{pick}
-use Rattle.whole.specs.Frac.{Frac, ◌+f◌, ◌*f◌, ◌÷f◌, whole, frac}
+use Rattle.whole.specs.Frac.{Frac, ◌*f◌, whole, frac}
 use Rattle.units.specs.declared.Ordinate.{Ordinate}
 use Rattle.units.specs.Datum.{lift, sheer_at}
-use Rattle.edition.specs.declared.Edition.{Edition}
-use Rattle.edition.specs.declared.Edition.TheVariants.{Of2003, Of1966}
 use Rattle.corrections.specs.Depth31.{rate}
 use Rattle.sheer.specs.Sheer.{standard_after, standard_forward}
 use Rattle.bow.specs.Bow.{hundreds, forecastle_taken}
@@ -67,7 +65,7 @@ unfoldable pub by_sheer : Signed → ℕ → ℕ → ℕ → Signed
 by_sheer m L S reach =
     pick (m <s? nil) ((nil -s m) *s factor L S) (nil -s mins (m *s factor L S *s plain (frac reach (2 * L))) (plain (frac 125 100 *f whole L)))
 
--- ---- 39(1), 2003: with x = L/100, b1 = 6075x - 1875x² + 200x³ mm
+-- ---- 39(1): with x = L/100, b1 = 6075x - 1875x² + 200x³ mm
 unfoldable pub b1 : ℕ → Signed
 b1 L =
     plain (whole 1000)
@@ -79,21 +77,10 @@ b2 L M cb cwf =
     plain (frac 208 100) +s plain (frac 609 1000 *f frac cb 10000) -s plain (frac 1603 1000 *f frac cwf 10000)
     -s plain (frac 129 10000 *f frac (100 * L) (85 * M))
 
--- ---- 39(1), 1966: 56 L (1 - L/500) 1.36/(Cb + 0.68) mm, from 250 m 7000 1.36/(Cb + 0.68), Cb at least 0.68
-unfoldable pub older : ℕ → ℕ → Signed
-older L cb =
-    pick (ltb L 250000) (plain (whole 56 *f whole L) *s (plain (whole 1) -s plain (frac L 500000))) (plain (whole 7000000))
-    *s plain (frac 136 100 ÷f (frac (max cb 6800) 10000 +f frac 68 100))
-
--- by the edition
-abbrev pub bow_height : Edition → ℕ → ℕ → ℕ → ℕ → Signed
-bow_height Of2003 L M cb cwf = b1 L *s b2 L M cb cwf
-bow_height Of1966 L M cb cwf = older L cb
-
 -- ---- 39(2): the sheer at FP if the ordinate at L/6 from FP is above zero
 unfoldable pub sheer_taken : List Ordinate → Signed
 sheer_taken o = pick (nil <s? ordinate o 4) (plain (whole 1000) *s ordinate o 5) nil
 
--- from the height take that, and the forecastle's if its l is at least 0.07 L
-unfoldable pub bow : Signed → List Ordinate → ℕ → ℕ → ℕ → Signed
-bow asked o L l height = asked -s sheer_taken o -s plain (whole (forecastle_taken L l height))
+-- from b1 b2 take that, and the forecastle's height if its l is at least 0.07 L
+unfoldable pub bow : List Ordinate → ℕ → ℕ → ℕ → ℕ → ℕ → ℕ → Signed
+bow o L M cb cwf l height = b1 L *s b2 L M cb cwf -s sheer_taken o -s plain (whole (forecastle_taken L l height))

@@ -1,4 +1,4 @@
--- 31, of a ship, by any rules: a deeper ship of the same kind never has a lower mark; and where no house covers 0.2 L to 0.8 L nothing is taken.
+-- 31, of a ship: a deeper ship of the same kind never has a lower mark; and where no house covers 0.2 L to 0.8 L nothing is taken.
 use mathlib.Core.Path.{◌≡◌, refl, ◌∙◌}
 use mathlib.Core.Bool.{Bool, false}
 use mathlib.Core.List.{List, [], ◌∷◌}
@@ -7,7 +7,7 @@ use native.Mathlib.Nat.{le_refl}
 use native.Mathlib.Omega.{arith}
 use lib.ListN.{length}
 use Rattle.whole.proofs.Pick.{pick_false}
-use Rattle.percentages.specs.declared.Lines.{Lines}
+use Rattle.percentages.specs.Table37.{ordinary_row}
 use Rattle.ship.specs.declared.House.{House}
 use Rattle.ship.specs.declared.Ship.{Ship}
 use Rattle.ship.specs.Vessel.{no_house, house_at, houses_of}
@@ -19,8 +19,7 @@ use Rattle.corrections.specs.Depth31.{depth_reduction}
 use Rattle.corrections.specs.Gathered as Before
 use Rattle.corrections.proofs.Depth31.{addition_rises, reduction_falls, reduction_none}
 use Rattle.mark.proofs.Bound.{summer_rises}
-use Rattle.steps.specs.Rules.{Rules}
-use Rattle.steps.specs.Steps.{type_b, basis, covered_s, effective_e, forecastle_house, bridge_of, amidships_ratio, cover_reach, added_to, share_of, taken_from, bow_of, summer_of}
+use Rattle.steps.specs.Steps.{basis, covered_s, effective_e, forecastle_house, amidships_ratio, cover_reach, added_to, taken_from, bow_of, summer_of}
 
 -- a ship that differs in depth alone
 abbrev pub of_depth : ℕ → Ship → Ship
@@ -39,22 +38,21 @@ of_depth d x = record {
   houses = x.houses;
 }
 
-module _ (r : Rules) (x : Ship) (d : ℕ) (p : x.depth.0 ≤ d) where
-  more_added : (line : ℕ) → added_to r line x ≤ added_to r line (of_depth d x)
+module _ (x : Ship) (d : ℕ) (p : x.depth.0 ≤ d) where
+  more_added : (line : ℕ) → added_to line x ≤ added_to line (of_depth d x)
   unfolding added_to covered_s effective_e Before.added
   more_added line = omega (arith, addition_rises x.length.0 x.depth.0 d p)
 
-  less_taken : (lines : Lines) → taken_from r lines (of_depth d x) ≤ taken_from r lines x
-  unfolding taken_from share_of covered_s effective_e forecastle_house bridge_of amidships_ratio cover_reach
-  less_taken lines =
+  less_taken : (row : List ℕ) → taken_from row (of_depth d x) ≤ taken_from row x
+  unfolding taken_from covered_s effective_e forecastle_house amidships_ratio cover_reach
+  less_taken row =
       omega (arith, reduction_falls x.length.0 x.depth.0 d (height_ratio x.length.0 (amidships_of x.length.0 (houses_of x))) p)
 
-  pub deeper_summer : summer_of r x ≤ summer_of r (of_depth d x)
+  pub deeper_summer : summer_of x ≤ summer_of (of_depth d x)
   unfolding summer_of bow_of forecastle_house
   deeper_summer =
       let line = (basis x).line in
-      let lines = r.lines (type_b x) in
-      summer_rises (basis x).floor (basis x).floor (added_to r line x) (taken_from r lines x) (added_to r line (of_depth d x)) (taken_from r lines (of_depth d x)) (bow_of r x) (le_refl _) (more_added line) (less_taken lines)
+      summer_rises (basis x).floor (basis x).floor (added_to line x) (taken_from ordinary_row x) (added_to line (of_depth d x)) (taken_from ordinary_row (of_depth d x)) (bow_of x) (le_refl _) (more_added line) (less_taken ordinary_row)
 
 -- ---- no house amidships, nothing taken
 none_that : (test : House → Bool) (hs : List House) → ((k : ℕ) → k < length hs → test (house_at hs k) ≡ false) → house_that test hs ≡ no_house

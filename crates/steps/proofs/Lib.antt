@@ -1,4 +1,3 @@
-pub mod Rules
 pub mod Bound
 pub mod Particulars
 pub mod Depth

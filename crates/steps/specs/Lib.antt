@@ -1,4 +1,3 @@
-pub mod Rules
 pub mod Steps
 pub mod Exact
 pub mod Timber

@@ -84,10 +84,6 @@ summed_exact l q test is (h ∷ hs) f = go (test h) refl (summed_exact l q test 
         (subst (λ (k : Bool). frac (top_of l h) (low_height l k).top ≈f exact_effective l h) (is h e).1 (full_exact l h f.0 (is h e).0)) r
     go false e r = r
 
--- one house's effective length, down
-pub down_exact : (l : ℕ) (h : House) → FairBreadths h → down (unrounded_of l h) ≡ floor (exact_effective l h)
-down_exact l h f = floor_of (top_of l h) (bottom_of l h) (bottom_some l h f) (unrounded_exact l h f)
-
 -- what the houses with breadths have, one by one
 own_exact : (l : ℕ) (hs : List House) → AllFair hs
     → total (λ h. down (unrounded_of l h)) (those is_set_in hs) ≡ total (λ h. floor (exact_effective l h)) (those is_set_in hs)
@@ -101,7 +97,7 @@ own_exact l (h ∷ hs) f = go (full_breadth h) (own_exact l hs f.1)
     go : (b : Bool) → total (λ h. down (unrounded_of l h)) gs ≡ total (λ h. floor (exact_effective l h)) gs
         → total (λ h. down (unrounded_of l h)) (pick (not b) (h ∷ gs) gs) ≡ total (λ h. floor (exact_effective l h)) (pick (not b) (h ∷ gs) gs)
     go true r = r
-    go false r = ap₂ ◌+◌ (down_exact l h f.0) r
+    go false r = ap₂ ◌+◌ (floor_of (top_of l h) (bottom_of l h) (bottom_some l h f.0) (unrounded_exact l h f.0)) r
 
 pub not-true : (q : Bool) → not q ≡ true → q ≡ false
 not-true true e = sym e

@@ -50,7 +50,7 @@ fn plus(e: Unrounded, s: Unrounded) -> Unrounded
 }
 
 // An effective length or a sum, rounded down. Nothing is divided where there is nothing to divide: most ships have no raised quarterdeck.
-pub fn rounded(e: Unrounded) -> Effective
+fn rounded(e: Unrounded) -> Effective
     requires { FairLength e }
     ensures result_value { result.0 ≡ down e }
     ensures result_le_greatest_length { result.0 ≤ greatest_length }

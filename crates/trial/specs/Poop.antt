@@ -1,4 +1,4 @@
--- 01, the question: the ship with a poop of k dm, and whether that k fits, by the rules r of an edition.
+-- 01, the question: the ship with a poop of k dm, and whether that k fits.
 use Rattle.std.specs.Prelude.{ℕ, ◌+◌, ◌*◌, Bool, true, false, ◌&&◌, List, ◌∷◌, ◌++◌, eqb, leb, take}
 use Rattle.whole.specs.Pick.{pick}
 use Rattle.units.specs.Datum.{station_of}
@@ -7,7 +7,6 @@ use Rattle.ship.specs.declared.Ship.{Ship}
 use Rattle.ship.specs.Vessel.{houses_of}
 use Rattle.ship.specs.Refusals.{Line, first}
 use Rattle.ship.specs.Checks.{house_lines}
-use Rattle.steps.specs.Rules.{Rules}
 use Rattle.steps.specs.Steps.{summer_of, particulars_of}
 use Rattle.mark.specs.Others.{mark_lines}
 
@@ -49,9 +48,9 @@ unfoldable pub within : List Line → ℕ → ℕ → Bool
 within ts S wish = eqb (first ts).number 0 && leb S wish
 
 -- the whole calculation on a ship's list of houses, 9 to 13, 18 and 23, gives marks with S at most the wish
-unfoldable pub marks_within : Rules → Ship → ℕ → Bool
-marks_within r y wish = within (house_lines y.length.0 (houses_of y) ++ mark_lines (particulars_of y) (summer_of r y)) (summer_of r y) wish
+unfoldable pub marks_within : Ship → ℕ → Bool
+marks_within y wish = within (house_lines y.length.0 (houses_of y) ++ mark_lines (particulars_of y) (summer_of y)) (summer_of y) wish
 
 -- k fits: any of 9 to 13, 18 or 23 on the new list only makes it unfit
-unfoldable pub fits_at : Rules → Ship → ℕ → ℕ → ℕ → Bool
-fits_at r x height wish k = marks_within r (with_poop height k x) wish
+unfoldable pub fits_at : Ship → ℕ → ℕ → ℕ → Bool
+fits_at x height wish k = marks_within (with_poop height k x) wish

@@ -2,7 +2,6 @@
 use Rattle.std.specs.Prelude.{ℕ, ◌-◌, ◌*◌, ◌≤◌, ◌<◌, Bool, ◌&&◌, ◌≡◌, eqb, leb}
 use Rattle.whole.specs.Pick.{pick}
 use Rattle.units.specs.Datum.{station_of}
-use Rattle.edition.specs.declared.Edition.{Edition}
 use Rattle.ship.specs.declared.Ship.{Ship}
 use Rattle.ship.specs.Vessel.{houses_of, house_at}
 use Rattle.effective.specs.Unrounded.{ratio_of}
@@ -19,9 +18,9 @@ use Rattle.trial.specs.Poop.{poop_house, within}
 unfoldable pub room_of : Ship → ℕ
 room_of x = pick (eqb x.n 0) x.length.0 ((house_at x.houses 0).aft.0 - station_of 0)
 
-unfoldable pub standing_of : Edition → Ship → ℕ → ℕ → Standing
-standing_of e x height wish = record {
-  hull = hull_of e x;
+unfoldable pub standing_of : Ship → ℕ → ℕ → Standing
+standing_of x height wish = record {
+  hull = hull_of x;
   deck = deck_of x.length.0 (houses_of x);
   ratio = ratio_of x.length.0 (poop_house height 0);
   room = record { 0 = room_of x };

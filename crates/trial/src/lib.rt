@@ -7,7 +7,6 @@ ghost use Rattle.trial.specs.Poop.{poop_house};
 ghost use Rattle.trial.specs.Standing.{room_of, standing_of, deck_for, marked_on, fits_on, Fair};
 
 use deck::Deck;
-use edition::Edition;
 use hull::Hull;
 use mark::{Answer, Particulars};
 use ship::{House, Ship};
@@ -57,14 +56,14 @@ fn poop_house(height: Span, k: u64) -> House
     }
 }
 
-// What no length changes, worked by an edition for a ship, a height of poop and a wish.
-pub fn standing_of(edition: Edition, x: Ship, height: Span, wish: u64) -> Standing
+// What no length changes, worked for a ship, a height of poop and a wish.
+pub fn standing_of(x: Ship, height: Span, wish: u64) -> Standing
     requires { Sound x × (x.n < 8) × (1 ≤ height.0) × (height.0 ≤ 8191) }
-    ensures value { result ≡ standing_of edition x height.0 wish }
+    ensures value { result ≡ standing_of x height.0 wish }
     ensures fair { Fair result }
 {
     let hs = x.houses;
-    let hull = hull::hull_of(edition, x);
+    let hull = hull::hull_of(x);
     let deck = deck::deck_of(x.length, hs, x.n);
     let ratio = effective::height_ratio(x.length, poop_house(height, 0));
     let room = room_of(x);

@@ -2,7 +2,7 @@
 // regulation's formula, as where lengths give a freeboard. A plain number gets its unit where it comes in: from a record, from C, from who asks.
 #![tactic(auto)]
 
-ghost use Rattle.std.specs.Prelude.{◌≡◌, ◌+◌, ◌-◌, ◌*◌, ◌/◌, ◌^◌, ◌≤◌, ◌<◌, min, max, eqb, leb, ltb};
+ghost use Rattle.std.specs.Prelude.{◌≡◌, ◌+◌, ◌-◌, ◌*◌, ◌/◌, ◌^◌, ◌≤◌, ◌<◌, min, max, leb, ltb};
 ghost use Rattle.whole.specs.Divide.{ceil_div};
 ghost use Rattle.units.specs.Datum.{datum, lift, station_of, mm_of, station_at, sheer_of, ordinate_at, counted_from};
 
@@ -84,15 +84,6 @@ pub fn is_at_or_abaft(a: Station, b: Station) -> bool
     let m = a.0;
     let n = b.0;
     m <= n
-}
-
-// Whether two stations are one.
-pub fn is_at(a: Station, b: Station) -> bool
-    ensures { result ≡ eqb a.0 b.0 }
-{
-    let m = a.0;
-    let n = b.0;
-    m == n
 }
 
 // The aftermost of two stations.

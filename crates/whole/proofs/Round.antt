@@ -1,8 +1,8 @@
 -- Laws of specs/Round.antt.
 use mathlib.Core.Path.{◌≡◌, sym, ap₂, ◌∙◌}
 use Prim.Native.Nat.{ℕ, suc, ◌+◌, ◌*◌, ◌-◌, ◌/◌, ◌≤◌, ◌<◌, min, max}
-use native.Mathlib.Omega.{arith, min_cases, max_cases}
-use native.Mathlib.Nat.{mul_comm, mul-le-mul_right, mul-lt-mul_of_pos_right, lt_of_mul-lt-mul_right, min-eq_left, min-eq_right, max-eq_left, max-eq_right, div-mul-le_self, lt-div-mul-add, mul-div-mul_right}
+use native.Mathlib.Omega.{arith, min_cases}
+use native.Mathlib.Nat.{mul_comm, mul-le-mul_right, mul-lt-mul_of_pos_right, lt_of_mul-lt-mul_right, min-eq_left, min-eq_right, div-mul-le_self, lt-div-mul-add, mul-div-mul_right}
 use Rattle.whole.specs.Divide.{ceil_div}
 use Rattle.whole.proofs.Divide.{ceil_ge, ceil_lt, ceil_most, ceil_cancel, floor_most}
 use Rattle.whole.specs.Frac.{Frac, ◌≤f◌, ◌≈f◌, ◌+f◌, ◌*f◌, ◌-f◌, maxf, minf, whole, frac, ceil, floor}
@@ -155,10 +155,3 @@ floor_lesser x y =
     min_cases (x.top * y.bot) (y.top * x.bot) (min (floor x) (floor y) ≡ floor (minf x y))
     (λ p q. rw q (min-eq_left (floor_mono x y (record { le = p })) ∙ sym (mul-div-mul_right x.top x.bot y.pos)))
     (λ p q. rw (q, mul_comm x.bot y.bot) (min-eq_right (floor_mono y x (record { le = p })) ∙ sym (mul-div-mul_right y.top y.bot x.pos)))
-
--- and the greater
-pub floor_greater : (x y : Frac) → max (floor x) (floor y) ≡ floor (maxf x y)
-floor_greater x y =
-    max_cases (x.top * y.bot) (y.top * x.bot) (max (floor x) (floor y) ≡ floor (maxf x y))
-    (λ p q. rw (q, mul_comm x.bot y.bot) (max-eq_right (floor_mono x y (record { le = p })) ∙ sym (mul-div-mul_right y.top y.bot x.pos)))
-    (λ p q. rw q (max-eq_left (floor_mono y x (record { le = p })) ∙ sym (mul-div-mul_right x.top x.bot y.pos)))

@@ -1,15 +1,12 @@
 //! A program's marks against the exact value in fractions: `against PROGRAM COUNT SEED`.
 //!
-//! Each random ship's record goes to the program's standard input twice, once with the argument `1966`. Its line must
-//! be the one worked here in that edition, and its S must be at least the exact summer freeboard and less than
-//! 1.1 mm above it. So must LS, where it is given.
+//! Each random ship's record goes to the program's standard input. Its line must be the one worked here, and its S
+//! must be at least the exact summer freeboard and less than 1.1 mm above it. So must LS, where it is given.
 
-use std::fmt;
 use std::io::{self, Write};
 use std::process::{Command, ExitCode, Stdio};
 
 use twin::big::{over, whole, Fraction};
-use twin::edition::Edition;
 use twin::random::Random;
 use twin::record::{self, Ship, Version};
 use twin::{exact, marks};
@@ -38,9 +35,9 @@ fn main() -> ExitCode {
     }
 }
 
-/// Ships with marks in one edition, by sort.
+/// Ships with marks, by sort.
+#[derive(Default)]
 struct Given {
-    edition: Edition,
     all: u64,
     kinds: [u64; 5],
     set_in: u64,
@@ -48,92 +45,67 @@ struct Given {
     /// With the flag, and those of them whose LS is at or above D.
     timber: u64,
     none: u64,
-    /// The most that S and LS stand above their exact values, um.
-    most: [f64; 2],
 }
 
 impl Given {
-    fn new(edition: Edition) -> Given {
-        let (all, kinds, most) = (0, [0; 5], [0.0; 2]);
-        Given { edition, all, kinds, set_in: 0, reduced: 0, timber: 0, none: 0, most }
-    }
-
-    fn add(&mut self, ship: &Ship, costs: [f64; 2]) {
+    fn add(&mut self, ship: &Ship) {
         self.all += 1;
         self.kinds[ship.kind as usize] += 1;
         self.set_in += u64::from(record::any_set_in(&ship.houses));
-        let steps = marks::steps(ship, self.edition);
+        let steps = marks::steps(ship);
         self.reduced += u64::from(steps.depth_reduction > 0);
         self.timber += u64::from(ship.timber);
-        let timber = marks::timber_steps(ship, &steps, self.edition);
-        self.none += u64::from(ship.timber && timber.summer >= ship.depth);
-        self.most = [0, 1].map(|i| self.most[i].max(costs[i]));
-    }
-}
-
-impl fmt::Display for Given {
-    fn fmt(&self, f: &mut fmt::Formatter) -> fmt::Result {
-        let Given { edition, all, set_in, reduced, timber, none, most: [s, ls], .. } = self;
-        let [a, b, b60, b100, covers] = self.kinds;
-        write!(
-            f,
-            "{edition}: {all} with marks (A {a}, B {b}, B-60 {b60}, B-100 {b100}, \
-             portable covers {covers}), {set_in} of them with houses that are set in, \
-             {reduced} with a reduction for depth, {timber} with timber, {none} of these all zero, \
-             S above exact by at most {s:.3} um, LS by at most {ls:.3} um"
-        )
+        let beyond = ship.timber && marks::timber_steps(ship, &steps).summer >= ship.depth;
+        self.none += u64::from(beyond);
     }
 }
 
 fn compare(program: &str, count: u64, seed: u64) -> Result<String, String> {
     let mut random = Random::new(seed);
-    let (mut ships, mut given) = (0, Edition::ALL.map(Given::new));
+    let (mut ships, mut given, mut most) = (0, Given::default(), [0.0f64; 2]);
     while ships < count {
         let n = random.between(0, 8) as usize;
-        let about = random.pick(&Edition::ALL);
-        let Ok(ship) = random.ship_of_any_sort(n, about).check() else { continue };
+        let Ok(ship) = random.any_ship_or_timber(n).check() else { continue };
         let raw = ship.raw();
         let version = Version::lowest(&raw);
         let mut record = vec![0; version.record_bytes(ship.houses.len())];
         record::pack_as(version, &mut record, &raw);
+        let line = run(program, &record).map_err(|error| format!("{program}: {error}"))?;
         ships += 1;
-        for given in &mut given {
-            let edition = given.edition;
-            let line =
-                run(program, &record, edition).map_err(|error| format!("{program}: {error}"))?;
-            let costs = judge(&ship, &line, edition)
-                .map_err(|why| format!("{edition}: {why}: {}", hex(&record)))?;
-            if line.starts_with('S') {
-                given.add(&ship, costs);
-            }
+        if line.starts_with('S') {
+            given.add(&ship);
         }
+        let costs = judge(&ship, &line).map_err(|why| format!("{why}: {}", hex(&record)))?;
+        most = [0, 1].map(|i| most[i].max(costs[i]));
     }
-    Ok(format!("{ships} ships\n{}", given.map(|given| given.to_string()).join("\n")))
+    let Given { all, kinds: [a, b, b60, b100, covers], set_in, reduced, timber, none } = given;
+    Ok(format!(
+        "{ships} ships, {all} with marks (A {a}, B {b}, B-60 {b60}, B-100 {b100}, \
+         portable covers {covers}), {set_in} of them with houses that are set in, \
+         {reduced} with a reduction for depth, {timber} with timber, {none} of these all zero, \
+         S above exact by at most {:.3} um, LS by at most {:.3} um",
+        most[0], most[1]
+    ))
 }
 
-fn run(program: &str, record: &[u8], edition: Edition) -> io::Result<String> {
-    let mut command = Command::new(program);
-    if edition.is_older() {
-        command.arg("1966");
-    }
-    let mut child = command.stdin(Stdio::piped()).stdout(Stdio::piped()).spawn()?;
+fn run(program: &str, record: &[u8]) -> io::Result<String> {
+    let mut child = Command::new(program).stdin(Stdio::piped()).stdout(Stdio::piped()).spawn()?;
     child.stdin.take().expect("a pipe was asked for").write_all(record)?;
     let output = child.wait_with_output()?;
     Ok(String::from_utf8_lossy(&output.stdout).trim_end().to_string())
 }
 
 /// What the roundings cost S and LS in um, or why the line is wrong.
-fn judge(ship: &Ship, line: &str, edition: Edition) -> Result<[f64; 2], String> {
-    let given = marks::marks(ship, edition);
-    let ours = given.map_or_else(|refusal| refusal.to_string(), |m| m.to_string());
+fn judge(ship: &Ship, line: &str) -> Result<[f64; 2], String> {
+    let ours = marks::marks(ship).map_or_else(|refusal| refusal.to_string(), |m| m.to_string());
     if line != ours {
         return Err(format!("the program has `{line}`, the papers `{ours}`"));
     }
     let Some(mark) = number(line, "S") else { return Ok([0.0; 2]) };
-    let summer = bounded("S", mark, exact::exact(ship, edition).summer)?;
+    let summer = bounded("S", mark, exact::exact(ship).summer)?;
     // LWNA is never zero but where all six are.
     match (number(line, "LS"), number(line, "LWNA")) {
-        (Some(mark), Some(1..)) => Ok([summer, bounded("LS", mark, exact::timber(ship, edition))?]),
+        (Some(mark), Some(1..)) => Ok([summer, bounded("LS", mark, exact::timber(ship))?]),
         _ => Ok([summer, 0.0]),
     }
 }

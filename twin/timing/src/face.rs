@@ -1,6 +1,5 @@
 //! An archive's four calls, as include/loadline.h has them, with the unsafe part kept here.
 
-use twin::edition::Edition;
 use twin::record::{House, RawShip};
 
 #[repr(C)]
@@ -79,15 +78,10 @@ pub struct WriteAnswer {
     pub bytes: u64,
 }
 
-/// LOADLINE_EDITION_2003 or LOADLINE_EDITION_1966.
-fn number(edition: Edition) -> u64 {
-    u64::from(edition.is_older())
-}
-
 /// The four calls of one archive.
 pub trait Calls {
-    fn marks(record: &[u8], edition: Edition) -> MarksAnswer;
-    fn shortest_poop(record: &[u8], height: u64, wish: u64, edition: Edition) -> PoopAnswer;
+    fn marks(record: &[u8]) -> MarksAnswer;
+    fn shortest_poop(record: &[u8], height: u64, wish: u64) -> PoopAnswer;
     fn read(record: &[u8]) -> ReadAnswer;
     fn write(buffer: &mut [u8], ship: &FlatShip) -> WriteAnswer;
 }
@@ -100,31 +94,21 @@ macro_rules! archive {
         pub struct $archive;
 
         impl Calls for $archive {
-            fn marks(record: &[u8], edition: Edition) -> MarksAnswer {
+            fn marks(record: &[u8]) -> MarksAnswer {
                 extern "C" {
                     #[link_name = $marks]
-                    fn marks(record: *const u8, length: usize, edition: u64) -> MarksAnswer;
+                    fn marks(record: *const u8, length: usize) -> MarksAnswer;
                 }
-                unsafe { marks(record.as_ptr(), record.len(), number(edition)) }
+                unsafe { marks(record.as_ptr(), record.len()) }
             }
 
-            fn shortest_poop(
-                record: &[u8],
-                height: u64,
-                wish: u64,
-                edition: Edition,
-            ) -> PoopAnswer {
+            fn shortest_poop(record: &[u8], height: u64, wish: u64) -> PoopAnswer {
                 extern "C" {
                     #[link_name = $shortest_poop]
-                    fn poop(
-                        record: *const u8,
-                        length: usize,
-                        height: u64,
-                        wish: u64,
-                        edition: u64,
-                    ) -> PoopAnswer;
+                    fn poop(record: *const u8, length: usize, height: u64, wish: u64)
+                        -> PoopAnswer;
                 }
-                unsafe { poop(record.as_ptr(), record.len(), height, wish, number(edition)) }
+                unsafe { poop(record.as_ptr(), record.len(), height, wish) }
             }
 
             fn read(record: &[u8]) -> ReadAnswer {

@@ -9,7 +9,6 @@ use std::time::{Duration, Instant};
 
 use face::{Calls, Now};
 use inputs::Input;
-use twin::edition::Edition;
 use twin::{marks, question, record};
 
 /// Rounds of each side; the median counts.
@@ -37,23 +36,17 @@ macro_rules! sides {
 fn main() {
     let earlier =
         if cfg!(before) { format!("{:>10}{:>8}", "before", "ratio") } else { String::new() };
-    println!("{:<40}{:>10}{:>10}{:>8}{earlier}", "call", "archive", "twin", "ratio");
-    let ships = inputs::ships(Edition::Y2003);
+    println!("{:<32}{:>10}{:>10}{:>8}{earlier}", "call", "archive", "twin", "ratio");
+    let ships = inputs::ships();
     row("marks", &ships, sides!(archive_marks, twin_marks));
-    let timber = inputs::timber_ships(Edition::Y2003);
+    let timber = inputs::timber_ships();
     row("marks with timber", &timber, sides!(archive_marks, twin_marks));
-    let older = inputs::ships(Edition::Y1966);
-    row("marks in 1966", &older, sides!(archive_marks, twin_marks));
     row("read", &ships, sides!(archive_read, twin_read));
     row("write", &ships, sides!(archive_write, twin_write));
-    for (edition, named) in [(Edition::Y2003, ""), (Edition::Y1966, " in 1966")] {
-        let hits = inputs::early_hits(edition);
-        let call = format!("question{named}, answer 1 to 10 dm");
-        row(&call, &hits, sides!(archive_question, twin_question));
-        let searches = inputs::full_searches(edition);
-        let call = format!("question{named}, refusal 16 at 365 m");
-        row(&call, &searches, sides!(archive_question, twin_question));
-    }
+    let hits = inputs::early_hits();
+    row("question, answer 1 to 10 dm", &hits, sides!(archive_question, twin_question));
+    let searches = inputs::full_searches();
+    row("question, refusal 16 at 365 m", &searches, sides!(archive_question, twin_question));
 }
 
 /// Times all sides, and prints the mean over the inputs in the median round. An earlier version may
@@ -72,7 +65,7 @@ fn row(call: &str, inputs: &[Input], sides: &[Pass]) {
     }
     let times: Vec<f64> = times.into_iter().map(median).collect();
     let (archive, twin) = (times[0], times[1]);
-    print!("{call:<40}{:>10}{:>10}{:>8.2}", shown(archive), shown(twin), archive / twin);
+    print!("{call:<32}{:>10}{:>10}{:>8.2}", shown(archive), shown(twin), archive / twin);
     for &before in &times[2..] {
         print!("{:>10}{:>8.2}", shown(before), before / twin);
     }
@@ -81,16 +74,15 @@ fn row(call: &str, inputs: &[Input], sides: &[Pass]) {
 
 /// Times of different work would say nothing.
 fn agree(input: &Input) -> bool {
-    let edition = input.edition;
-    let marks = record::read(&input.record).and_then(|ship| marks::marks(&ship, edition));
+    let marks = record::read(&input.record).and_then(|ship| marks::marks(&ship));
     let timber = marks.ok().and_then(|marks| marks.timber).unwrap_or_default();
-    let poop = question::shortest_poop(&input.record, input.height, input.wish, edition);
+    let poop = question::shortest_poop(&input.record, input.height, input.wish);
     let mut buffer = [0; BUFFER];
     let written = Now::write(&mut buffer, &input.flat).bytes as usize;
-    let given = Now::marks(&input.record, edition);
+    let given = Now::marks(&input.record);
     given.s == marks.map_or(0, |marks| marks.summer)
         && (given.ls, given.ltf) == (timber.summer, timber.tropical_fresh)
-        && Now::shortest_poop(&input.record, input.height, input.wish, edition).decimetres as i64
+        && Now::shortest_poop(&input.record, input.height, input.wish).decimetres as i64
             == poop.unwrap_or(0)
         && Now::read(&input.record).ship.kind == input.raw.kind
         && Now::read(&input.record).ship.timber == u64::from(input.raw.timber)
@@ -131,14 +123,13 @@ fn shown(ns: f64) -> String {
 
 fn archive_marks<A: Calls>(inputs: &[Input]) {
     for input in inputs {
-        black_box(&A::marks(&input.record, input.edition));
+        black_box(&A::marks(&input.record));
     }
 }
 
 fn twin_marks(inputs: &[Input]) {
     for input in inputs {
-        let ship = record::read(&input.record);
-        black_box(&ship.and_then(|ship| marks::marks(&ship, input.edition)));
+        black_box(&record::read(&input.record).and_then(|ship| marks::marks(&ship)));
     }
 }
 
@@ -172,14 +163,12 @@ fn twin_write(inputs: &[Input]) {
 
 fn archive_question<A: Calls>(inputs: &[Input]) {
     for input in inputs {
-        let Input { record, height, wish, edition, .. } = input;
-        black_box(&A::shortest_poop(record, *height, *wish, *edition));
+        black_box(&A::shortest_poop(&input.record, input.height, input.wish));
     }
 }
 
 fn twin_question(inputs: &[Input]) {
     for input in inputs {
-        let Input { record, height, wish, edition, .. } = input;
-        black_box(&question::shortest_poop(record, *height, *wish, *edition));
+        black_box(&question::shortest_poop(&input.record, input.height, input.wish));
     }
 }

@@ -13,7 +13,7 @@ use Rattle.ship.specs.declared.rule.Rule.{Rule}
 use Rattle.ship.specs.declared.rule.Rule.TheVariants.{EndsAndHeight, SetInSides, RaisedQuarterdeck, Follows}
 use Rattle.ship.specs.Checks.{breaks, breach_at, fore_before, first_breach, first_from}
 use Rattle.ship.proofs.First.{first_pass, first_end}
-use Rattle.ship.proofs.Lines.{or-false}
+use Rattle.ship.proofs.Lines.{or_false}
 use Rattle.checks.proofs.all_keep.Statement.{statement}
 use Rattle.checks.proofs.all_keep.Tie as tie
 
@@ -28,9 +28,9 @@ decreases_loop l n houses reached₀ k₀ reached k = n - k
 -- a house that breaks none of the four keeps each
 each : (l before : ℕ) (h : House) → (breaks EndsAndHeight l before h || breaks SetInSides l before h || breaks RaisedQuarterdeck l before h || breaks Follows l before h) ≡ false → (r : Rule) → breaks r l before h ≡ false
 each l before h e r =
-    let p = or-false (breaks EndsAndHeight l before h || breaks SetInSides l before h || breaks RaisedQuarterdeck l before h) (breaks Follows l before h) e in
-    let q = or-false (breaks EndsAndHeight l before h || breaks SetInSides l before h) (breaks RaisedQuarterdeck l before h) p.0 in
-    let s = or-false (breaks EndsAndHeight l before h) (breaks SetInSides l before h) q.0 in
+    let p = or_false (breaks EndsAndHeight l before h || breaks SetInSides l before h || breaks RaisedQuarterdeck l before h) (breaks Follows l before h) e in
+    let q = or_false (breaks EndsAndHeight l before h || breaks SetInSides l before h) (breaks RaisedQuarterdeck l before h) p.0 in
+    let s = or_false (breaks EndsAndHeight l before h) (breaks SetInSides l before h) q.0 in
     elim r [ EndsAndHeight ↦ s.0 | SetInSides ↦ s.1 | RaisedQuarterdeck ↦ q.1 | Follows ↦ p.1 ]
 
 keeps : (c : tie.Else1 invariant_loop decreases_loop) (r : Rule)

@@ -1,4 +1,3 @@
-use mathlib.Core.List.{[]}
 use mathlib.Core.Path.{sym, ap, ◌∙◌}
 use borrow.Author.Rules.{rules}
 use Rattle.houses.specs.Length.{total, covered_length}
@@ -9,7 +8,7 @@ use Rattle.houses.specs.Cover.{reach}
 use Rattle.summed.specs.declared.Summed.{Summed}
 use Rattle.summed.specs.Summed.{summed_of}
 use Rattle.deck.specs.declared.Forecastle.{Forecastle}
-use Rattle.deck.specs.Deck.{bridges_of, deck_of}
+use Rattle.deck.specs.Deck.{deck_of}
 use Rattle.deck.proofs.Gathered.{bare, bare_amidships}
 use Rattle.deck.proofs.bare_deck.Statement.{statement}
 use Rattle.deck.proofs.bare_deck.Tie as tie
@@ -22,7 +21,7 @@ none_over : Unrounded → Ratio
 none_over e = record { top = 0; bottom = e.bottom }
 
 pub bare_deck_spec : {M : Type 1} → statement M
-unfolding deck_of bridges_of summed_of covered_length reach total those with_effective none_over
+unfolding deck_of summed_of covered_length reach total those with_effective none_over
 bare_deck_spec =
     tie.close
     (tie.spec
@@ -33,4 +32,4 @@ bare_deck_spec =
     let e = n.of_none.ensures in
     let forecastle = ap (λ (s : Summed). with_effective s.ordinary) e ∙ sym (bare l) in
     let amidships = ap (λ (s : Summed). none_over s.ordinary) e ∙ sym (bare_amidships l) in
-    λ i. record { s = record { 0 = 0 }; effective = e i; reach = 0; forecastle = forecastle i; amidships = amidships i; bridges = bridges_of l [] }))
+    λ i. record { s = record { 0 = 0 }; effective = e i; reach = 0; forecastle = forecastle i; amidships = amidships i }))

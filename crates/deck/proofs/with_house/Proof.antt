@@ -16,9 +16,8 @@ use Rattle.deck.proofs.with_house.Statement.{statement}
 use Rattle.deck.proofs.with_house.Tie as tie
 
 -- what the calls gave, with either forecastle, is the definition's deck
-laid : (f : tie.After-is-forecastle) (is : Bool) → f.is-forecastle.result ≡ is
-    → let b = f.before.before in
-    let m = b.before in
+laid : (f : tie.After-is-forecastle) (b : Bool) → f.is-forecastle.result ≡ b
+    → let m = f.before.before in
     let r = m.before.before in
     let w = r.before in
     let e = w.before.before.before in
@@ -26,25 +25,23 @@ laid : (f : tie.After-is-forecastle) (is : Bool) → f.is-forecastle.result ≡ 
     let a = p.before.args in
     let deck : Deck = record {
       s = record { 0 = p.part.result.0 + a.d.s.0 };
-      effective = w.with_one.result;
+      effective = w.with-one.result;
       reach = r.reach_of.result + a.d.reach;
-      forecastle = pick is (record { effective = e.effective-of.result; part = p.part.result; height = a.h.height }) a.d.forecastle;
+      forecastle = pick b (record { effective = e.effective-of.result; part = p.part.result; height = a.h.height }) a.d.forecastle;
       amidships = m.amidships-with.result;
-      bridges = b.bridges-with.result;
     } in
     deck ≡ deck_with a.l.0 a.h a.d
 unfolding deck_with
-laid f is t =
-    let b = f.before.before in
-    let m = b.before in
+laid f b t =
+    let m = f.before.before in
     let r = m.before.before in
     let w = r.before in
     let e = w.before.before.before in
     let p = e.before in
     let a = p.before.args in
-    let q : is ≡ is_forecastle a.l.0 a.h = sym t ∙ f.is-forecastle.ensures in
+    let q : b ≡ is_forecastle a.l.0 a.h = sym t ∙ f.is-forecastle.ensures in
     let own = e.effective-of.ensures.1.0 in
-    let sums = w.with_one.ensures ∙ ap (λ (u : Unrounded). summed_with a.h u a.d.effective) own in
+    let sums = w.with-one.ensures ∙ ap (λ (u : Unrounded). summed_with a.h u a.d.effective) own in
     let ratio = m.amidships-with.ensures ∙ (λ i. pick (covers_amidships a.l.0 a.h) (p.before.requires.2 i) a.d.amidships) in
     λ i. record {
       s = record { 0 = p.part.ensures.0 i + a.d.s.0 };
@@ -52,7 +49,6 @@ laid f is t =
       reach = r.reach_of.ensures.0 i + a.d.reach;
       forecastle = pick (q i) (record { effective = own i; part = record { 0 = p.part.ensures.0 i }; height = a.h.height }) a.d.forecastle;
       amidships = ratio i;
-      bridges = b.bridges-with.ensures i;
     }
 
 pub with_house_spec : {M : Type 1} → statement M
@@ -73,12 +69,6 @@ with_house_spec =
     (λ c κs. search rules)
     (λ c. search rules)
     (λ c κs. search rules)
-    (λ c κs.
-    let e = c.before.before.before.before.before.before in
-    let s = e.before.before in
-    (s.requires.0, e.effective-of.ensures.1.1, e.effective-of.ensures.1.0))
-    (λ c κs.
-    let w = c.before.before.before.before.before in
-    w.before.before.before.before.before.requires.0)
+    (λ c κs. search rules)
     (λ c. laid c.before.before _ c.before.if1.true)
     (λ c. laid c.before _ c.if1.false))

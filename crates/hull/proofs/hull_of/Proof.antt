@@ -1,5 +1,5 @@
 -- Each field is what the contract of its own call says.
-use mathlib.Core.Path.{◌∙◌}
+use native.Mathlib.Omega.{arith}
 use borrow.Author.Rules.{rules}
 use Rattle.ship.specs.Kinds.{is_type_b}
 use Rattle.hull.specs.Parts.{hull_of}
@@ -15,26 +15,20 @@ hull_of_spec =
     (λ c κs. search rules)
     (λ c κs. search rules)
     (λ c κs. search rules)
+    (λ c. search rules)
+    (λ c. search rules)
     (λ c κs. search rules)
-    (λ c. search rules)
-    (λ c. search rules)
-    (λ c κs.
-    let h = c.before.before in
-    let s = h.before.before.before.before.before.before.before.before.before in
-    (h.asked.ensures.1.0, h.asked.ensures.1.1, s.requires.good.sheer.fp))
     (λ c.
-    let h = c.before.before.before in
-    let m = h.before in
+    let m = c.before.before.before in
     let a = m.before in
     let t = a.before.before in
     let k = t.before in
     let s = k.before.before.before.before in
     let x = s.args.x in
     let g = s.requires.good in
-    let above = c.less-sheer.ensures.0.0 ∙ rw (h.asked.ensures.0.0, k.counted-block.ensures.0) in
-    let below = c.less-sheer.ensures.0.1 ∙ rw (h.asked.ensures.0.1, k.counted-block.ensures.0) in (
+    let above = rw k.counted-block.ensures.0 at c.asked.ensures.0.0 in
+    let below = rw k.counted-block.ensures.0 at c.asked.ensures.0.1 in (
       λ i. record {
-        edition = s.args.edition;
         b = is_type_b x.kind;
         length = x.length;
         block = k.counted-block.ensures.0 i;
@@ -47,14 +41,14 @@ hull_of_spec =
       record {
         length_least = g.length_least;
         length_most = g.length_most;
-        block = k.counted-block.ensures.1;
+        block = omega arith;
         line = t.basis-of.ensures.1.0;
         floor = t.basis-of.ensures.1.1;
         depth = g.depth_most;
         deep = a.addition.ensures.1;
         deficiency = m.mean-sheer.ensures.1.0;
         excess = m.mean-sheer.ensures.1.1;
-        above = c.less-sheer.ensures.1.0;
-        below = c.less-sheer.ensures.1.1;
+        above = c.asked.ensures.1.0;
+        below = c.asked.ensures.1.1;
       },
     )))

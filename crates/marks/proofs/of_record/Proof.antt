@@ -1,7 +1,5 @@
 use mathlib.Core.Path.{sym, ◌∙◌}
 use Rattle.reader.proofs.Told.{read_as, read_refused}
-use Rattle.steps.specs.Rules.{rules_of}
-use Rattle.steps.proofs.Rules.{both}
 use Rattle.marks.proofs.Demand.{bounded_in}
 use Rattle.marks.proofs.Sheet.{sound_read, answer_read, answer_refused}
 use borrow.Author.Rules.{rules}
@@ -24,12 +22,11 @@ of_record_spec =
     let a = c.before.before in
     let r = a.before.before in
     let s = r.before.before.args.s.now in
-    let n = r.before.before.args.edition in
-    let e = c.of-ship.ensures.0 ∙ sym (answer_read (rules_of n) s r.read.result.ship (read_as s r.read.result r.read.ensures a.enum_told.given.1)) in
-    (e, bounded_in (both n) s c.of-ship.result e))
+    let e = c.of-ship.ensures.0 ∙ sym (answer_read s r.read.result.ship (read_as s r.read.result r.read.ensures a.enum_told.given.1)) in
+    (e, bounded_in s c.of-ship.result e))
     (λ c.
     let v = c.before in
     let r = v.before.before in
     let s = r.before.before.args.s.now in
     let n = v.v.given.0.0 in
-    (sym (answer_refused (rules_of r.before.before.args.edition) s n (read_refused s r.read.result r.read.ensures n v.v.given.1)), tt)))
+    (sym (answer_refused s n (read_refused s r.read.result r.read.ensures n v.v.given.1)), tt)))

@@ -2,7 +2,6 @@
 use mathlib.Core.Path.{◌≡◌, ap, ◌∙◌}
 use borrow.Author.Rules.{rules}
 use Rattle.timber.specs.Timber.{signed, timber_marks}
-use Rattle.steps.specs.Rules.{rules_of}
 use Rattle.steps.specs.Timber.{timber_summer_of, timber_marks_of}
 use Rattle.summer.specs.Parts.{timber_on}
 use Rattle.summer.proofs.Parts.{timber_parts}
@@ -26,7 +25,6 @@ timber_marks_spec =
     let x = s.args.x in
     let m = s.args.m in
     let p = s.requires.0 in
-    let n = s.args.h.edition in
-    let ls : signed t.timber-on.result ≡ timber_summer_of (rules_of n) x =
-    ap signed (t.timber-on.ensures.0 ∙ (λ i. timber_on (l.timber-line.ensures.0 i) (p.1 i) (p.2 i))) ∙ timber_parts n x p.0.good.houses in
+    let ls : signed t.timber-on.result ≡ timber_summer_of x =
+    ap signed (t.timber-on.ensures.0 ∙ (λ i. timber_on (l.timber-line.ensures.0 i) (p.1 i) (p.2 i))) ∙ timber_parts x p.0.good.houses in
     c.follow.ensures ∙ (λ i. timber_marks (b.is-reduced.ensures i) m.w m.wna x.depth.0 (ls i))))

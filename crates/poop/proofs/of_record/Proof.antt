@@ -1,7 +1,6 @@
 use mathlib.Core.Path.{sym, ◌∙◌}
 use Rattle.reader.proofs.Told.{read_as, read_refused}
 use Rattle.marks.proofs.Sheet.{sound_read}
-use Rattle.steps.specs.Rules.{rules_of}
 use Rattle.poop.proofs.Replies.{reply_read, reply_refused}
 use borrow.Author.Rules.{rules}
 use Rattle.poop.proofs.of_record.Statement.{statement}
@@ -24,11 +23,11 @@ of_record_spec =
     let r = t.before.before in
     let a = r.before.before.args in
     let s = a.s.now in
-    c.of-ship.ensures ∙ sym (reply_read (rules_of a.edition) a.height a.wish s r.read.result.ship (read_as s r.read.result r.read.ensures t.enum_told.given.1)))
+    c.of-ship.ensures ∙ sym (reply_read a.height a.wish s r.read.result.ship (read_as s r.read.result r.read.ensures t.enum_told.given.1)))
     (λ c.
     let v = c.before in
     let r = v.before.before in
     let a = r.before.before.args in
     let s = a.s.now in
     let n = v.v.given.0.0 in
-    sym (reply_refused (rules_of a.edition) a.height a.wish s n (read_refused s r.read.result r.read.ensures n v.v.given.1))))
+    sym (reply_refused a.height a.wish s n (read_refused s r.read.result r.read.ensures n v.v.given.1))))

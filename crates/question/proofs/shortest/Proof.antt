@@ -5,7 +5,6 @@ use lib.ListN.{length, length-map}
 use native.Mathlib.Nat.{sub-zero}
 use native.Mathlib.Omega.{arith}
 use borrow.Author.Rules.{rules}
-use Rattle.steps.specs.Rules.{rules_of}
 use Rattle.trial.specs.Standing.{fits_on}
 use Rattle.question.specs.Question.{shortest_from, shortest_for}
 use Rattle.trial.proofs.Trial.{length_stands}
@@ -21,19 +20,19 @@ decreases_loop wish q most k₀ k = most + 1 - k
 
 -- a ship has eight places
 eight : (s : tie.Start invariant_loop decreases_loop) → length s.args.x.houses ≡ 8
-eight s = simp length-map at s.well-formed.1.0.1.1.1.1.1.1.1.1.1.1.1.1.1.0.1.0.1
+eight s = simp length-map at s.well-formed.0.1.1.1.1.1.1.1.1.1.1.1.1.1.0.1.0.1
 
 -- the search by what stays the same is the search
 whole : (d : tie.After-dm-within invariant_loop decreases_loop)
     → let a = d.before in
     let x = a.before.args.x in
-    shortest_from (fits_on a.standing-of.result) (d.dm-within.result + 1) 0 ≡ shortest_for (rules_of a.before.args.edition) x a.before.args.height.0 a.before.args.wish
+    shortest_from (fits_on a.standing-of.result) (d.dm-within.result + 1) 0 ≡ shortest_for x a.before.args.height.0 a.before.args.wish
 whole d =
     let a = d.before in
     let s = a.before in
     let p = s.requires in
     rw d.dm-within.ensures
-    (searched s.args.edition s.args.x p.0 p.1 (eight s) s.args.height.0 s.args.wish p.2 p.3 a.standing-of.result a.standing-of.ensures.0)
+    (searched s.args.x p.0 p.1 (eight s) s.args.height.0 s.args.wish p.2 p.3 a.standing-of.result a.standing-of.ensures.0)
 
 -- a length in the loop is at most L
 within : (d : tie.After-dm-within invariant_loop decreases_loop) (k : ℕ) → k ≤ d.dm-within.result → 100 * k ≤ d.before.before.args.x.length.0
@@ -54,7 +53,7 @@ shortest_spec =
     let s = a.before in
     let p = s.requires in (
       a.standing-of.ensures.1,
-      rw (length_stands s.args.edition s.args.x p.0 p.1 (eight s) s.args.height.0 s.args.wish p.2 p.3 a.standing-of.result a.standing-of.ensures.0)
+      rw (length_stands s.args.x p.0 p.1 (eight s) s.args.height.0 s.args.wish p.2 p.3 a.standing-of.result a.standing-of.ensures.0)
           (within d c.before.loop.k (omega arith)),
     ))
     (λ c.

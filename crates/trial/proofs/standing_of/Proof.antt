@@ -15,7 +15,7 @@ use Rattle.trial.proofs.standing_of.Tie as tie
 
 -- a ship has eight places
 eight : (s : tie.Start) → length s.args.x.houses ≡ 8
-eight s = simp length-map at s.well-formed.1.0.1.1.1.1.1.1.1.1.1.1.1.1.1.0.1.0.1
+eight s = simp length-map at s.well-formed.0.1.1.1.1.1.1.1.1.1.1.1.1.1.0.1.0.1
 
 pub standing_of_spec : {M : Type 1} → statement M
 unfolding standing_of hull_of poop_house
@@ -36,7 +36,7 @@ standing_of_spec =
     let s = h.before.before in
     let a = s.args in
     let ratio = o.height-ratio.ensures.1.0 ∙ ap (ratio_of a.x.length.0) o.before.poop-house.ensures in
-    let e : _ ≡ standing_of a.edition a.x a.height.0 a.wish =
+    let e : _ ≡ standing_of a.x a.height.0 a.wish =
     λ i. record {
       hull = h.hull-of.ensures.0 i;
       deck = d.deck_of_lem.ensures.0 i;
@@ -46,4 +46,4 @@ standing_of_spec =
       height = a.height;
       wish = a.wish;
     } in
-    (e, rw e (fair_standing a.edition a.x s.requires.0 s.requires.1 (eight s) a.height.0 a.wish s.requires.2 s.requires.3 (rw h.hull-of.ensures.0 at h.hull-of.ensures.1)))))
+    (e, rw e (fair_standing a.x s.requires.0 s.requires.1 (eight s) a.height.0 a.wish s.requires.2 s.requires.3 (rw h.hull-of.ensures.0 at h.hull-of.ensures.1)))))

@@ -2,7 +2,6 @@
 //! step may show in the mark. Other ships hardly ever show a um of E, of the reduction for depth or of
 //! the line of B-60.
 
-use twin::edition::Edition;
 use twin::marks::{self, standard_height, Steps};
 use twin::random::Random;
 use twin::record::{House, RawShip, Ship, MAX_HOUSES};
@@ -11,32 +10,26 @@ use twin::record::{House, RawShip, Ship, MAX_HOUSES};
 const TRIES: usize = 2_000;
 
 /// The ship with `n` houses, or with a poop besides: then also the height and the mark to ask for.
-/// One in three is below L/15 with a house amidships, which may be the poop. In 1966 every other one of the rest is
-/// about that edition.
-pub fn ship(random: &mut Random, n: usize, edition: Edition) -> (RawShip, Option<(u64, u64)>) {
+/// One in three is below L/15 with a house amidships, which may be the poop.
+pub fn ship(random: &mut Random, n: usize) -> (RawShip, Option<(u64, u64)>) {
     let kind = random.kind();
     // B-60 and B-100 are never short: no poop is the house amidships.
     let long = matches!(kind, 2 | 3);
     let shallow = random.once_in(3) && (n > 0 || !long);
-    let older = edition.is_older() && !shallow && random.once_in(2);
     // E is worth most to a short ship.
     let longest = if long { 365_000 } else { random.pick(&[30_000, 365_000]) };
     loop {
-        let mut raw = match shallow {
-            true => random.low_ship_of(Some(kind), n),
-            false if older => random.older_ship(n),
-            false => random.ship_of(kind, n),
-        };
-        // Of the ships about that edition few are short.
-        if raw.length > longest && !(older && random.once_in(20)) {
+        let mut raw =
+            if shallow { random.low_ship_of(Some(kind), n) } else { random.ship_of(kind, n) };
+        if raw.length > longest {
             continue;
         }
         put_low_houses(random, &mut raw);
         let Ok(ship) = raw.check() else { continue };
         let poop = poop(random, &ship, shallow);
-        if let Some(fine) = tuned(random, with(&ship, poop), shallow, edition) {
+        if let Some(fine) = tuned(random, with(&ship, poop), shallow) {
             (raw.depth, raw.cb) = (fine.depth as u64, fine.cb as u64);
-            let mark = marks::steps(&fine, edition).summer as u64;
+            let mark = marks::steps(&fine).summer as u64;
             return (raw, poop.map(|poop| (poop.height, mark)));
         }
     }
@@ -94,7 +87,7 @@ pub fn with(ship: &Ship, poop: Option<House>) -> Ship {
 }
 
 /// The ship with a depth and a fullness for which the freeboard is as wanted.
-fn tuned(random: &mut Random, mut ship: Ship, shallow: bool, edition: Edition) -> Option<Ship> {
+fn tuned(random: &mut Random, mut ship: Ship, shallow: bool) -> Option<Ship> {
     let fifteenth = ship.length / 15;
     let (least, most) = match shallow {
         true => (fifteenth * 2 / 3, (ship.length - 1) / 15),
@@ -102,16 +95,16 @@ fn tuned(random: &mut Random, mut ship: Ship, shallow: bool, edition: Edition) -
     };
     // A ship that does not show it at the least depth is not worth the tries.
     ship.depth = least.max(1_000);
-    if shallow && !reduction_shows(&marks::steps(&ship, edition)) {
+    if shallow && !reduction_shows(&marks::steps(&ship)) {
         return None;
     }
     let fine = (0..TRIES).any(|_| {
         ship.depth = random.between(least, most).clamp(1_000, 60_000);
         ship.cb = random.between(6_800, 10_000);
-        let steps = marks::steps(&ship, edition);
+        let steps = marks::steps(&ship);
         at_whole_mm(steps.corrected.max(steps.bow))
             && (!shallow || reduction_shows(&steps))
-            && marks::marks(&ship, edition).is_ok()
+            && marks::marks(&ship).is_ok()
     });
     fine.then_some(ship)
 }
@@ -137,10 +130,9 @@ mod tests {
         let mut random = Random::new(35);
         let mut seen = [0; 4];
         for i in 0..4_000 {
-            let edition = Edition::ALL[i / 9 % 2];
-            let ship = ship(&mut random, i % 9, edition).0.check().expect("a valid ship");
+            let ship = ship(&mut random, i % 9).0.check().expect("a valid ship");
             let enclosed: Vec<House> = ship.houses.iter().filter(|h| h.enclosed).copied().collect();
-            let steps = marks::steps(&ship, edition);
+            let steps = marks::steps(&ship);
             let shown = steps.corrected > steps.bow && !enclosed.is_empty();
             let full = enclosed.iter().filter(|house| house.has_full_breadth()).count();
             let set_in = enclosed.len() - full;
@@ -165,11 +157,10 @@ mod tests {
         let mut seen = [0; 5];
         let mut shows = 0;
         for i in 0..4_000 {
-            let edition = Edition::ALL[i / 9 % 2];
-            let (raw, question) = ship(&mut random, i % 9, edition);
+            let (raw, question) = ship(&mut random, i % 9);
             let ship = raw.check().expect("a valid ship");
             seen[ship.kind as usize] += 1;
-            let steps = marks::steps(&ship, edition);
+            let steps = marks::steps(&ship);
             let [a, b] = [Kind::A, Kind::B].map(|kind| marks::tabular(kind, ship.length));
             let fraction = (2 * b + 3 * a) % 5 > 0;
             let at_one = steps.corrected > steps.bow && steps.corrected % 1000 == 1;
@@ -178,28 +169,5 @@ mod tests {
         }
         assert!(seen.iter().all(|&n| n >= 100), "{seen:?}");
         assert!(shows >= 100, "{shows}");
-    }
-
-    /// Ships of type B in 1966 with a detached bridge below 0.2 L and lines that differ, and with a forecastle below
-    /// 0.07 L; their corrected value at a whole mm or one um above it.
-    #[test]
-    fn bridges_and_forecastles_show() {
-        let mut random = Random::new(66);
-        let mut seen = [0; 4];
-        for i in 0..4_000 {
-            let ship = ship(&mut random, i % 9, Edition::Y1966).0.check().expect("a valid ship");
-            let steps = marks::steps(&ship, Edition::Y1966);
-            let lengths = marks::older::lengths(&ship, steps.forecastle);
-            let (l, type_b) = (ship.length, ship.kind != Kind::A);
-            let shown = type_b && steps.corrected > steps.bow && at_whole_mm(steps.corrected);
-            let below = steps.effective < 600 * l && !lengths.long_forecastle;
-            let bridge = below && (1..200 * l).contains(&lengths.bridge);
-            let short = steps.share > 0 && (1..70 * l).contains(&lengths.forecastle);
-            let sorts = [bridge, bridge && l < 31_000, short, short && l < 31_000];
-            for (count, holds) in seen.iter_mut().zip(sorts) {
-                *count += u32::from(holds && shown);
-            }
-        }
-        assert!(seen.iter().all(|&n| n >= 50), "{seen:?}");
     }
 }

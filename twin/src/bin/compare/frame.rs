@@ -48,7 +48,6 @@ pub fn batch(inputs: &[Input]) -> Vec<u8> {
     for input in inputs {
         put(&mut bytes, &[input.record_length as u64]);
         bytes.extend(input.record);
-        put(&mut bytes, &[input.edition]);
         let (height, wish) = input.question.unwrap_or_default();
         put(&mut bytes, &[input.question.is_some().into(), height, wish]);
         put(&mut bytes, &[input.buffer_length as u64]);
@@ -101,7 +100,7 @@ mod tests {
     #[test]
     fn sizes() {
         let input = Input::draw(&mut Random::new(1));
-        assert_eq!(batch(&[input]).len(), 8 + 976);
+        assert_eq!(batch(&[input]).len(), 8 + 968);
         assert_eq!(ANSWER, 1360);
     }
 }

@@ -2,7 +2,6 @@
 
 use std::fmt;
 
-use twin::edition::Edition;
 use twin::question;
 use twin::random::Random;
 use twin::record::{self, Kind as Type, RawShip, Ship, Version, MAX_HOUSES};
@@ -27,7 +26,6 @@ pub enum Kind {
     Head,
     Side,
     Timber,
-    Older,
     Damaged,
     Noise,
     Sheer,
@@ -43,7 +41,6 @@ impl fmt::Display for Kind {
             Kind::Head => "about types and versions",
             Kind::Side => "about set-in sides",
             Kind::Timber => "about timber",
-            Kind::Older => "about the 1966 edition",
             Kind::Damaged => "damaged",
             Kind::Noise => "noise",
             Kind::Sheer => "about sheer",
@@ -56,8 +53,6 @@ pub struct Input {
     /// The record, and any bytes after it.
     pub record: [u8; ROOM],
     pub record_length: usize,
-    /// 0 is 2003, any other number 1966; for the marks and for the question.
-    pub edition: u64,
     /// Height and wish.
     pub question: Option<(u64, u64)>,
     /// The numbers of the ship to be written.
@@ -70,33 +65,32 @@ pub struct Input {
 impl Input {
     pub fn draw(random: &mut Random) -> Input {
         let n = random.between(0, MAX_HOUSES as i64) as usize;
-        let mut input = Input::blank(random);
-        let mut raw = random.any_ship(n, input.edition());
+        let mut raw = random.any_ship(n);
         random.flag_at_times(&mut raw);
-        match random.between(1, 48) {
+        let mut input = Input::blank(random);
+        match random.between(1, 40) {
             1..=6 => input.pack(random, &raw),
             7..=9 => input.put_whole_mm(random, n),
             10..=14 => input.put_border(random, raw.clone()),
             15..=19 => input.put_damaged(random, &raw),
             20..=24 => input.put_list(random, raw.clone()),
-            25..=29 => input.put_head(random, n),
-            30..=33 => input.put_side(random, raw.clone()),
-            34..=39 => input.put_timber(random, n),
-            40..=45 => input.put_older(random, n),
+            25..=28 => input.put_head(random, n),
+            29..=32 => input.put_side(random, raw.clone()),
+            33..=38 => input.put_timber(random, n),
             _ => input.put_noise(random),
         }
         input.state(random, raw);
         if input.question.is_none() && random.once_in(4) {
-            input.question = Some(asked(random, input.record(), input.edition()));
+            input.question = Some(asked(random, input.record()));
         }
         input
     }
 
     /// One around the borders of sheer.
     pub fn draw_sheer(random: &mut Random) -> Input {
-        let mut input = Input::blank(random);
-        let (mut raw, question) = sheer::ship(random, input.edition());
+        let (mut raw, question) = sheer::ship(random);
         random.flag_at_times(&mut raw);
+        let mut input = Input::blank(random);
         input.kind = Kind::Sheer;
         input.question = question;
         input.pack(random, &raw);
@@ -110,7 +104,6 @@ impl Input {
             kind: Kind::Valid,
             record: filled(pattern),
             record_length: 0,
-            edition: edition(random),
             question: None,
             ship: [0; SHIP],
             buffer_length: 0,
@@ -118,13 +111,9 @@ impl Input {
         }
     }
 
-    pub fn edition(&self) -> Edition {
-        Edition::of(self.edition)
-    }
-
     /// The ship to be written, and how long its buffer is.
     fn state(&mut self, random: &mut Random, raw: RawShip) {
-        self.ship = stated(random, raw, self.edition());
+        self.ship = stated(random, raw);
         self.buffer_length = buffer_length(random, &flat::ship(&self.ship));
     }
 
@@ -149,7 +138,7 @@ impl Input {
     }
 
     fn put_whole_mm(&mut self, random: &mut Random, n: usize) {
-        let (mut raw, question) = fine::ship(random, n, self.edition());
+        let (mut raw, question) = fine::ship(random, n);
         random.flag_at_times(&mut raw);
         self.kind = Kind::WholeMm;
         self.question = question;
@@ -209,20 +198,13 @@ impl Input {
     /// times.
     fn put_timber(&mut self, random: &mut Random, n: usize) {
         self.kind = Kind::Timber;
-        let raw = timber::ship(random, n, self.edition());
+        let raw = timber::ship(random, n);
         let version = match random.once_in(8) {
             true => random.pick(&Version::ALL),
             false => Version::Four,
         };
         self.pack_as(version, &raw);
         timber::damage(random, &mut self.record, &mut self.record_length);
-    }
-
-    /// A ship about the 1966 edition, asked for in either.
-    fn put_older(&mut self, random: &mut Random, n: usize) {
-        self.kind = Kind::Older;
-        let raw = random.older_ship(n);
-        self.pack(random, &raw);
     }
 
     fn put_damaged(&mut self, random: &mut Random, raw: &RawShip) {
@@ -260,18 +242,6 @@ impl Input {
     }
 }
 
-/// About half of the time 2003; otherwise most often 1, at times any other number.
-fn edition(random: &mut Random) -> u64 {
-    const OTHERS: [u64; 10] =
-        [2, 255, 256, 1966, 2003, 65_536, 1 << 32, (1 << 32) + 1, 1 << 63, u64::MAX];
-    match random.between(1, 20) {
-        1..=10 => 0,
-        11..=18 => 1,
-        19 => random.pick(&OTHERS),
-        _ => random.number(),
-    }
-}
-
 /// The pattern over and over.
 fn filled<const N: usize>(pattern: u64) -> [u8; N] {
     let bytes = pattern.to_le_bytes();
@@ -291,7 +261,7 @@ fn buffer_length(random: &mut Random, raw: &RawShip) -> usize {
 
 /// The numbers of the ship: as they are, at a border, with another list of houses, about refusals 22
 /// to 24, or any.
-fn stated(random: &mut Random, mut raw: RawShip, edition: Edition) -> [u64; SHIP] {
+fn stated(random: &mut Random, mut raw: RawShip) -> [u64; SHIP] {
     let kind = random.between(1, 20);
     match kind {
         5..=7 => border::put(random, &mut raw),
@@ -299,7 +269,7 @@ fn stated(random: &mut Random, mut raw: RawShip, edition: Edition) -> [u64; SHIP
         13 | 14 => raw = heads::ship(random, raw.n as usize),
         15 | 16 => sides::put(random, &mut raw),
         17 | 18 => sides::put_wide(random, &mut raw),
-        19 | 20 => raw = timber::ship(random, raw.n as usize, edition),
+        19 | 20 => raw = timber::ship(random, raw.n as usize),
         _ => {}
     }
     let yes = random.pick(&[1, 1, 1, 2, 256, 1 << 32, 1 << 63, u64::MAX]);
@@ -317,7 +287,7 @@ fn stated(random: &mut Random, mut raw: RawShip, edition: Edition) -> [u64; SHIP
 }
 
 /// Height and wish. A search through all lengths takes long, so that few ask for one.
-fn asked(random: &mut Random, record: &[u8], edition: Edition) -> (u64, u64) {
+fn asked(random: &mut Random, record: &[u8]) -> (u64, u64) {
     const NUMBERS: [u64; 8] = [0, 1, 50, 8_191, 8_192, 60_000, 60_001, u64::MAX];
     let any = (random.pick(&NUMBERS), random.pick(&NUMBERS));
     let height = random.between(1, 8_191) as u64;
@@ -329,18 +299,14 @@ fn asked(random: &mut Random, record: &[u8], edition: Edition) -> (u64, u64) {
         _ => return any,
     };
     if earns_by_poop(&ship) && random.once_in(4) {
-        return asked_amidships(random, &ship, edition);
-    }
-    if let Some(last) = touching_poop(&ship).filter(|_| random.once_in(2)) {
-        let k = last - random.pick(&[0, 1, 1]);
-        return asked_for(random, &ship, k, edition);
+        return asked_amidships(random, &ship);
     }
     if ship.kind == Type::Covers && random.once_in(8) {
         return (height, random.pick(&[49, 50, 149, 150, 151]));
     }
     // The mark that a poop of up to so many dm gives, if it gives any.
     let hit = |random: &mut Random, most: i64| {
-        let mark = question::summer_with_poop(&ship, height, random.between(0, most), edition);
+        let mark = question::summer_with_poop(&ship, height, random.between(0, most));
         (height, mark.map_or(u64::MAX, |mark| mark as u64))
     };
     match random.between(1, 100) {
@@ -359,24 +325,13 @@ fn earns_by_poop(ship: &Ship) -> bool {
 }
 
 /// A wish that a poop about 0.8 L meets, or that one just fails.
-fn asked_amidships(random: &mut Random, ship: &Ship, edition: Edition) -> (u64, u64) {
-    let k = fine::shortest_amidships(ship.length) + random.between(-1, 1);
-    asked_for(random, ship, k, edition)
-}
-
-/// The poop that touches the first house, dm, if there is one and that house is no forecastle.
-fn touching_poop(ship: &Ship) -> Option<i64> {
-    let first = ship.houses.first().filter(|first| first.fore < ship.length)?;
-    (first.enclosed && first.aft % 100 == 0).then_some(first.aft / 100)
-}
-
-/// A wish that a poop of k dm meets, or that it just fails.
-fn asked_for(random: &mut Random, ship: &Ship, k: i64, edition: Edition) -> (u64, u64) {
+fn asked_amidships(random: &mut Random, ship: &Ship) -> (u64, u64) {
     let height = match random.between(1, 4) {
         1 => random.between(1, 8_191),
         2 => random.between(2_200, 2_400),
         _ => random.between(900, 2_300),
     } as u64;
-    let mark = question::summer_with_poop(ship, height, k, edition);
+    let k = fine::shortest_amidships(ship.length) + random.between(-1, 1);
+    let mark = question::summer_with_poop(ship, height, k);
     (height, mark.map_or(60_000, |mark| (mark - random.between(0, 1)).max(50) as u64))
 }

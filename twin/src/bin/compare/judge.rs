@@ -1,6 +1,5 @@
 //! What the twin answers to an input, and where an answer differs from it.
 
-use twin::edition::Edition;
 use twin::marks::{self, Marks};
 use twin::question;
 use twin::record::{self, Ship, Version};
@@ -14,15 +13,13 @@ use crate::input::Input;
 pub fn worked(input: &Input) -> Answer {
     let read = record::read(input.record());
     let ship = read.as_ref().map_err(|refusal| *refusal);
-    let edition = Edition::of(input.edition);
-    let marks = ship.and_then(|ship| marks::marks(ship, edition));
     Answer {
-        marks: numbers(marks.map(|marks| twelve(&marks))),
+        marks: numbers(ship.and_then(marks::marks).map(|marks| twelve(&marks))),
         read: numbers(ship.map(|ship| flat::numbers(&ship.raw(), 1))),
         back: written_back(input, ship),
         write: written(input),
         poop: input.question.map_or([0; POOP], |(height, wish)| {
-            let poop = question::shortest_poop(input.record(), height, wish, edition);
+            let poop = question::shortest_poop(input.record(), height, wish);
             numbers(poop.map(|decimetres| [decimetres as u64]))
         }),
         record: input.record,
@@ -89,8 +86,7 @@ pub fn difference(input: &Input, archive: &Answer, twin: &Answer) -> Option<Stri
     }
     let record = format!("record {}", hex(input.record()));
     let (height, wish) = input.question.unwrap_or_default();
-    let in_edition = format!("{record}\nedition {}", input.edition);
-    let asked = format!("{in_edition}\nheight {height} wish {wish}");
+    let asked = format!("{record}\nheight {height} wish {wish}");
     let ship = format!(
         "ship {}\nbuffer of {} bytes in {}",
         decimal(&input.ship),
@@ -99,7 +95,7 @@ pub fn difference(input: &Input, archive: &Answer, twin: &Answer) -> Option<Stri
     );
     type Shown = fn(&Answer) -> String;
     let calls: [(&str, &str, Shown); 6] = [
-        ("loadline_marks", &in_edition, |a| decimal(&a.marks)),
+        ("loadline_marks", &record, |a| decimal(&a.marks)),
         ("loadline_read", &record, |a| decimal(&a.read)),
         ("loadline_write of the ship just read", &record, |a| both(&a.back)),
         ("loadline_write", &ship, |a| both(&a.write)),

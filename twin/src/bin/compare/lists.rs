@@ -23,7 +23,6 @@ pub fn put(random: &mut Random, raw: &mut RawShip) {
 #[cfg(test)]
 mod tests {
     use super::*;
-    use twin::edition::Edition;
     use twin::record::House;
     use twin::refusal::Refusal;
 
@@ -31,7 +30,7 @@ mod tests {
     fn ships(seed: u64) -> impl Iterator<Item = RawShip> {
         let mut random = Random::new(seed);
         (0..40_000).map(move |i| {
-            let mut raw = random.any_ship(i % 9, Edition::Y2003);
+            let mut raw = random.any_ship(i % 9);
             put(&mut random, &mut raw);
             raw
         })

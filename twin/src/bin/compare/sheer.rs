@@ -2,7 +2,6 @@
 //! or a mm beside it, ordinates at the ends of their range, means next to zero. In a good part of them
 //! one um of the mean may show in the mark.
 
-use twin::edition::Edition;
 use twin::marks::{self, depth_addition, Steps};
 use twin::random::Random;
 use twin::record::{House, RawShip, Ship};
@@ -35,21 +34,20 @@ struct Sums {
     forward: i64,
 }
 
-/// The ship; at times also height and wish of a question in this edition that a short search answers.
-pub fn ship(random: &mut Random, edition: Edition) -> (RawShip, Option<(u64, u64)>) {
+/// The ship; at times also height and wish of a question that a short search answers.
+pub fn ship(random: &mut Random) -> (RawShip, Option<(u64, u64)>) {
     loop {
         let mut raw = drawn(random);
         let Ok(ship) = raw.check() else { continue };
         let poop = if random.once_in(3) { poop(random, &ship) } else { None };
         let mut longer = fine::with(&ship, poop);
         if random.between(1, 5) <= 2 {
-            if let Some(tuned) = tuned(random, longer.clone(), edition) {
+            if let Some(tuned) = tuned(random, longer.clone()) {
                 (raw.depth, raw.cb) = (tuned.depth as u64, tuned.cb as u64);
                 longer = tuned;
             }
         }
-        let wish =
-            |poop: House| Some((poop.height, marks::marks(&longer, edition).ok()?.summer as u64));
+        let wish = |poop: House| Some((poop.height, marks::marks(&longer).ok()?.summer as u64));
         return (raw, poop.and_then(wish));
     }
 }
@@ -273,11 +271,11 @@ fn poop(random: &mut Random, ship: &Ship) -> Option<House> {
 
 /// The ship with a fullness and a depth for which the freeboard is at a whole mm or one um above it,
 /// and neither floor nor bow height decides.
-fn tuned(random: &mut Random, mut ship: Ship, edition: Edition) -> Option<Ship> {
+fn tuned(random: &mut Random, mut ship: Ship) -> Option<Ship> {
     let more = random.pick(&[ship.length / 15, 20_000]);
     ship.depth = (ship.length / 15 + random.between(1, more)).max(1_000);
     ship.cb = random.between(6_801, 9_000);
-    let steps = marks::steps(&ship, edition);
+    let steps = marks::steps(&ship);
     // Above L/15 only two steps come of these two, and they need not be worked from the beginning.
     let rest = steps.corrected - steps.fullness - steps.depth;
     let table = steps.table + steps.short_b;
@@ -290,7 +288,7 @@ fn tuned(random: &mut Random, mut ship: Ship, edition: Edition) -> Option<Ship> 
         let fits = |&&(_, others): &&(i64, i64)| fine::at_whole_mm(fullness + others);
         depths.iter().find(fits).map(|&(depth, _)| (cb, depth))
     })?;
-    (shows(&marks::steps(&ship, edition)) && marks::marks(&ship, edition).is_ok()).then_some(ship)
+    (shows(&marks::steps(&ship)) && marks::marks(&ship).is_ok()).then_some(ship)
 }
 
 /// One um of the corrected value may show in the mark.
@@ -307,8 +305,7 @@ mod tests {
 
     fn ships(seed: u64, count: usize) -> impl Iterator<Item = Ship> {
         let mut random = Random::new(seed);
-        let drawn = move |_| ship(&mut random, Edition::Y2003).0.check().expect("a valid ship");
-        (0..count).map(drawn)
+        (0..count).map(move |_| ship(&mut random).0.check().expect("a valid ship"))
     }
 
     /// After and forward sum.
@@ -378,7 +375,7 @@ mod tests {
         for ship in ships(11, 20_000) {
             let (credit, mean) = exact_mean(&ship);
             let (um, whole) = (480 * standard(ship.length), credit == standard(ship.length));
-            let steps = marks::steps(&ship, Edition::Y2003);
+            let steps = marks::steps(&ship);
             assert_eq!(steps.sheer_mean, mean.div_euclid(um));
             let (below, above) = (-um < mean && mean < 0, 0 < mean && mean < um);
             let after_excess = PARTS * sums(&ship).0 > standard(ship.length);
@@ -409,7 +406,7 @@ mod tests {
         let mut seen = [0; 11];
         let mut fine = 0;
         for ship in ships(16, 20_000) {
-            let steps = marks::steps(&ship, Edition::Y2003);
+            let steps = marks::steps(&ship);
             let (l, mean, reach) = (ship.length, steps.sheer_mean, steps.cover_reach);
             let shown = shows(&steps);
             fine += u32::from(shown);

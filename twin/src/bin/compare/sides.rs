@@ -108,7 +108,6 @@ mod tests {
     use super::*;
     use crate::flat;
     use crate::input::Input;
-    use twin::edition::Edition;
     use twin::record::{self, RawShip};
 
     fn count<const N: usize>(seen: &mut [u32], holds: [bool; N]) {
@@ -125,7 +124,7 @@ mod tests {
     fn ships(seed: u64) -> impl Iterator<Item = (RawShip, (u8, usize))> {
         let mut random = Random::new(seed);
         (0..60_000).map(move |i| {
-            let mut raw = random.any_ship(i % 9, Edition::Y2003);
+            let mut raw = random.any_ship(i % 9);
             put(&mut random, &mut raw);
             let said = number(&raw);
             (raw, said)

@@ -1,13 +1,9 @@
 //! What was compared, how many marks of each type were in it, how many have a house that is set in, a
-//! reduction for depth or timber marks, how many are of each edition and what 1966 has of its own, and how often
-//! each refusal was seen, 11, 18 and 22 to 24 in each call; for inputs around the borders of sheer, where the
-//! marks lie.
-
-mod editions;
+//! reduction for depth or timber marks, and how often each refusal was seen, 11, 18 and 22 to 24 in each
+//! call; for inputs around the borders of sheer, where the marks lie.
 
 use std::fmt;
 
-use editions::Editions;
 use twin::marks::{self, Steps, Timber};
 use twin::record::{self, Ship};
 
@@ -17,7 +13,7 @@ use crate::judge;
 use crate::sheer;
 
 /// Of records that are not around the borders of sheer.
-const KINDS: [Kind; 10] = [
+const KINDS: [Kind; 9] = [
     Kind::Valid,
     Kind::WholeMm,
     Kind::Border,
@@ -25,7 +21,6 @@ const KINDS: [Kind; 10] = [
     Kind::Head,
     Kind::Side,
     Kind::Timber,
-    Kind::Older,
     Kind::Damaged,
     Kind::Noise,
 ];
@@ -43,7 +38,7 @@ const NUMBERS: usize = 25;
 pub struct Tally {
     pub inputs: u64,
     /// In the order of `Kind`.
-    kinds: [u64; 11],
+    kinds: [u64; 10],
     /// Calls made and accepted, in the order of `CALLS`.
     calls: [(u64, u64); CALLS.len()],
     /// Marks of each type.
@@ -57,7 +52,6 @@ pub struct Tally {
     /// Marks with a reduction for depth, and poops that earn one.
     reductions: (u64, u64),
     timber: TimberMarks,
-    editions: Editions,
     /// By number; for each of `CALLS`.
     refusals: [[u64; NUMBERS]; CALLS.len()],
     /// Overlaps of 1 mm, and the greatest.
@@ -177,7 +171,6 @@ impl Tally {
             self.overlaps.0 += u64::from(overlap == 1);
             self.overlaps.1 = self.overlaps.1.max(overlap);
         }
-        self.editions.asked(input);
         self.add_steps(input, answer);
     }
 
@@ -186,10 +179,8 @@ impl Tally {
         let (read, lower) = &mut self.versions[usize::from(input.record[0] >> 4) - 1];
         *read += 1;
         *lower += u64::from(!judge::in_lowest_version(input, &ship));
-        let edition = input.edition();
         if answer.marks[0] == 0 {
-            let steps = marks::steps(&ship, edition);
-            self.editions.marked(&ship, &steps, edition);
+            let steps = marks::steps(&ship);
             self.types[ship.kind as usize] += 1;
             let floor = marks::floor(ship.kind);
             self.floors[usize::from(floor == 150)] += u64::from(steps.summer == floor);
@@ -197,8 +188,7 @@ impl Tally {
             let mut enclosed = ship.houses.iter().filter(|house| house.enclosed);
             self.set_in[0] += u64::from(enclosed.clone().any(|house| !house.has_full_breadth()));
             self.set_in[1] += u64::from(enclosed.any(|house| house.breadth < house.beam));
-            let given = marks::marks(&ship, edition).ok();
-            if let Some(timber) = given.and_then(|marks| marks.timber) {
+            if let Some(timber) = marks::marks(&ship).ok().and_then(|marks| marks.timber) {
                 self.timber.add(&ship, &steps, &timber);
             }
             if let Some(sheer) = &mut self.sheer {
@@ -209,7 +199,6 @@ impl Tally {
         let poop = 100 * answer.poop[REFUSAL] as i64;
         let earned = 15 * ship.depth < ship.length && 5 * poop >= 4 * ship.length;
         self.reductions.1 += u64::from(earned);
-        self.editions.answered(input, &ship, answer);
     }
 
     /// How often a refusal was seen in all calls.
@@ -271,14 +260,13 @@ impl fmt::Display for Tally {
             REFUSALS.iter().map(|&number| format!("{number}: {}", self.seen(number))).collect();
         write!(
             f,
-            "{} inputs, no difference: {}; {}; {}; {}; {}; \
+            "{} inputs, no difference: {}; {}; {}; {}; \
              {} marks with a reduction for depth, {} poops that earn one; refusals {}; {}",
             self.inputs,
             kinds.join(", "),
             calls.join(", "),
             self.types_and_versions(),
             self.timber,
-            self.editions,
             self.reductions.0,
             self.reductions.1,
             refusals.join(", "),
@@ -301,7 +289,7 @@ mod tests {
     fn reductions_are_drawn() {
         let mut random = Random::new(31);
         let mut tally = Tally::default();
-        for _ in 0..6_000 {
+        for _ in 0..4_000 {
             let input = Input::draw(&mut random);
             tally.add(&input, &judge::worked(&input));
         }

@@ -2,15 +2,14 @@
 //! another version.
 
 use twin::bits;
-use twin::edition::Edition;
 use twin::random::Random;
 use twin::record::{RawShip, Version, HEADER_BYTES};
 
 use crate::border;
 
 /// A ship with the flag and `n` houses, one in four of type A. At times something else is wrong as well.
-pub fn ship(random: &mut Random, n: usize, edition: Edition) -> RawShip {
-    let mut raw = random.timber_ship(n, edition);
+pub fn ship(random: &mut Random, n: usize) -> RawShip {
+    let mut raw = random.timber_ship(n);
     if random.once_in(4) {
         raw.kind = 0;
     }
@@ -76,7 +75,7 @@ mod tests {
         let mut random = Random::new(24);
         let mut seen = [0; 8];
         for i in 0..20_000 {
-            let raw = ship(&mut random, i % 9, Edition::ALL[i / 9 % 2]);
+            let raw = ship(&mut random, i % 9);
             let other = number(&RawShip { timber: false, ..raw.clone() });
             let (said, a) = (number(&raw), raw.kind == 0);
             let holds = [
@@ -130,15 +129,16 @@ mod tests {
     }
 
     /// Where the timber marks lie, for each type that may have them.
-    fn borders(edition: Edition) -> [[u32; 6]; 5] {
+    #[test]
+    fn borders() {
         let mut random = Random::new(9);
         let mut seen = [[0; 6]; 5];
         for i in 0..30_000 {
-            let raw = random.timber_ship(i % 9, edition);
+            let raw = random.timber_ship(i % 9);
             let ship = raw.check().expect("a valid ship");
-            let Ok(given) = marks::marks(&ship, edition) else { continue };
+            let Ok(given) = marks::marks(&ship) else { continue };
             let timber = given.timber.expect("the flag is set");
-            let steps = marks::timber_steps(&ship, &marks::steps(&ship, edition), edition);
+            let steps = marks::timber_steps(&ship, &marks::steps(&ship));
             let none = timber == Timber::default();
             let reduced = matches!(raw.kind, 2 | 3);
             let whole = steps.corrected.rem_euclid(1000) <= 1;
@@ -153,14 +153,6 @@ mod tests {
             ];
             count(&mut seen[raw.kind as usize], holds);
         }
-        seen
-    }
-
-    #[test]
-    fn borders_in_both_editions() {
-        for edition in Edition::ALL {
-            let seen = borders(edition);
-            assert!(seen[1..].as_flattened().iter().all(|&n| n >= 50), "{edition} {seen:?}");
-        }
+        assert!(seen[1..].as_flattened().iter().all(|&n| n >= 50), "{seen:?}");
     }
 }

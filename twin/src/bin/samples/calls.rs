@@ -3,7 +3,6 @@
 
 use std::marker::PhantomData;
 
-use twin::edition::Edition;
 use twin::marks;
 use twin::question;
 use twin::record::{RawShip, Ship};
@@ -119,7 +118,7 @@ fn tells<W: Working>(call: &Call, line: &str, slip: W::Slip) -> bool {
     answer(&working, call) != line
 }
 
-/// The line of the call, in 2003: no slip here is one of the edition's.
+/// The line of the call.
 fn answer<W: Working>(working: &W, call: &Call) -> String {
     let answer = match call {
         Call::Read(bytes) => working.read(bytes).map(|(ship, _)| {
@@ -127,11 +126,11 @@ fn answer<W: Working>(working: &W, call: &Call) -> String {
             format!("{} {}", report::ship_line(&ship), report::ending(bytes, &written))
         }),
         Call::Marks(bytes) => working.read(bytes).and_then(|(ship, late)| {
-            let marks = marks::marks(&ship, Edition::Y2003)?;
+            let marks = marks::marks(&ship)?;
             late.map_or(Ok(marks.to_string()), Err)
         }),
         Call::Question(bytes, height, wish) => working.read(bytes).and_then(|(ship, late)| {
-            let k = question::shortest_poop_of(&ship, *height, *wish, Edition::Y2003)?;
+            let k = question::shortest_poop_of(&ship, *height, *wish)?;
             late.map_or(Ok(format!("poop {k}")), Err)
         }),
         Call::Write(trial) => Ok(trial.line_by(|buffer, raw| working.write(buffer, raw))),

@@ -2,9 +2,9 @@
 //! marks to work and questions to answer.
 //!
 //! Each makes DIR/data/NAME for every case, DIR/args with the names in order, and DIR/stdout with
-//! one line for each; of marks and questions two, the second for the 1966 edition. `samples slips` shows
-//! which cases of the marks a slip in a step would change, and how many cases of each call a slip in the check
-//! of the houses, about types and versions, about set-in sides, about the timber flag or in the search would.
+//! one line for each. `samples slips` shows which cases of the marks a slip in a step would change,
+//! and how many cases of each call a slip in the check of the houses, about types and versions, about
+//! set-in sides, about the timber flag or in the search would.
 
 mod bytes;
 mod calls;
@@ -24,7 +24,6 @@ use std::io;
 use std::path::Path;
 use std::process::ExitCode;
 
-use twin::edition::Edition;
 use twin::refusal::Refusal;
 
 /// What a case is there for: a refusal, or none.
@@ -40,11 +39,11 @@ pub fn overlap(place: usize, mm: u64) -> Expected {
     Some(Refusal::overlapping(place, mm))
 }
 
-/// One case: its input, and the lines that answer it, one or that of each edition.
+/// One case: its input, and the line that answers it.
 pub struct Sample {
     pub name: String,
     pub data: Vec<u8>,
-    pub lines: Vec<String>,
+    pub line: String,
 }
 
 impl Sample {
@@ -63,26 +62,7 @@ impl Sample {
             }
             None => assert!(!line.starts_with("refused"), "{name}: {line}"),
         }
-        Sample { name: name.to_string(), data, lines: vec![line] }
-    }
-
-    /// The same with the line of each edition, for whose line in this edition the case is there. A refusal that
-    /// is not of a mark is the same in both.
-    pub fn in_both(
-        name: &str,
-        data: Vec<u8>,
-        lines: [String; 2],
-        edition: Edition,
-        expected: Expected,
-    ) -> Sample {
-        let shared = |line: &str| {
-            let words: Vec<&str> = line.split(' ').collect();
-            words[0] == "refused" && !["12", "13", "16"].contains(&words[1])
-        };
-        let same = lines.iter().any(|line| shared(line));
-        assert!(!same || lines[0] == lines[1], "{name}: {lines:?}");
-        let line = lines[edition as usize].clone();
-        Sample { lines: lines.to_vec(), ..Sample::new(name, data, line, expected) }
+        Sample { name: name.to_string(), data, line }
     }
 }
 
@@ -96,10 +76,7 @@ fn save(directory: &Path, samples: &[Sample]) -> io::Result<()> {
         assert!(!twice, "two cases are called {}", sample.name);
         fs::write(data.join(&sample.name), &sample.data)?;
         names += &format!("{}\n", sample.name);
-        // The second line of a case, if it has one, is that of 1966.
-        for (label, line) in [&sample.name[..], "1966"].iter().zip(&sample.lines) {
-            lines += &format!("{label}: {line}\n");
-        }
+        lines += &format!("{}: {}\n", sample.name, sample.line);
     }
     fs::write(directory.join("args"), names)?;
     fs::write(directory.join("stdout"), lines)

@@ -1,7 +1,5 @@
-//! Questions for the shortest poop: height and wish, then the record. The line of either edition is the poop's
-//! length in dm, or one of refusals 1 to 11, 18, 22 to 24, and 14 to 16.
-
-mod older;
+//! Questions for the shortest poop: height and wish, then the record. The line is the poop's length
+//! in dm, or one of refusals 1 to 11, 18, 22 to 24, and 14 to 16.
 
 use crate::bytes::{over, packed, resized, COUNT, KIND, SPARE, VERSION};
 use crate::heads::{self, slips::Heads};
@@ -13,7 +11,6 @@ use crate::ships::{
 use crate::sides::{self, slips::Sides};
 use crate::timber::{self, slips::Timbers};
 use crate::{refused, slips, Sample};
-use twin::edition::Edition;
 use twin::marks;
 use twin::question::{shortest_poop, summer_with_poop};
 use twin::record::{self, House, Kind, RawShip, Ship, MAX_HOUSES};
@@ -34,18 +31,11 @@ enum Expected {
 
 use Expected::{Exactly, Longer, Poop, Refused};
 
-/// A case that gets as far as the search, with the answer in each edition.
-struct Search {
-    ship: Ship,
-    height: u64,
-    wish: u64,
-    answers: [Result<i64, Refusal>; 2],
-}
-
 #[derive(Default)]
 pub struct Questions {
     pub samples: Vec<Sample>,
-    searched: Vec<Search>,
+    /// Ship, height, wish and answer of each case that gets as far as the search.
+    searched: Vec<(Ship, u64, u64, Result<i64, Refusal>)>,
     pub lists: Lists,
     pub heads: Heads,
     pub sides: Sides,
@@ -54,48 +44,40 @@ pub struct Questions {
 
 impl Questions {
     fn bytes(&mut self, name: &str, expected: Expected, height: u64, wish: u64, record: Vec<u8>) {
-        self.bytes_in(Edition::Y2003, name, expected, (height, wish), record);
-    }
-
-    /// What is expected is said of the answer in this edition. Height and wish are what is asked.
-    fn bytes_in(
-        &mut self,
-        edition: Edition,
-        name: &str,
-        expected: Expected,
-        (height, wish): (u64, u64),
-        record: Vec<u8>,
-    ) {
-        let answers = Edition::ALL.map(|edition| shortest_poop(&record, height, wish, edition));
-        let lines = answers.map(|answer| match answer {
+        let answer = shortest_poop(&record, height, wish);
+        let line = match answer {
             Ok(k) => format!("poop {k}"),
             Err(refusal) => refusal.to_string(),
-        });
-        let refusal = expected.refusal(name, answers[edition as usize]);
+        };
+        let refusal = match expected {
+            Poop(k) => {
+                assert_eq!(answer, Ok(k), "{name}");
+                None
+            }
+            Longer => {
+                assert!(answer.is_ok_and(|k| k > 0), "{name}: {line}");
+                None
+            }
+            Refused(number, place) => refused(number, place),
+            Exactly(refusal) => Some(refusal),
+        };
         if let (Ok(ship), false) =
-            (record::read(&record), matches!(answers[0], Err(r) if r.number < 15))
+            (record::read(&record), matches!(answer, Err(r) if r.number < 15))
         {
-            self.searched.push(Search { ship, height, wish, answers });
+            self.searched.push((ship, height, wish, answer));
         }
-        self.heads.question(&record, height, wish, &lines[0]);
-        self.sides.question(&record, height, wish, &lines[0]);
-        self.timbers.question(&record, height, wish, &lines[0]);
+        self.heads.question(&record, height, wish, &line);
+        self.sides.question(&record, height, wish, &line);
+        self.timbers.question(&record, height, wish, &line);
         let mut data = height.to_be_bytes().to_vec();
         data.extend(wish.to_be_bytes());
         data.extend(record);
-        self.samples.push(Sample::in_both(name, data, lines, edition, refusal));
+        self.samples.push(Sample::new(name, data, line, refusal));
     }
 
-    /// Cases that tell the slip, by the answers of its editions.
     fn told_by(&self, slip: Slip) -> usize {
-        let differs = |search: &&Search, edition: Edition| {
-            let Search { ship, height, wish, answers } = search;
-            search_with(slip, ship, *height, *wish, edition) != answers[edition as usize]
-        };
-        let told = self.searched.iter().filter(|search| match slip {
-            Slip::EditionAlways => differs(search, Edition::Y2003),
-            _ if slip as usize >= OLDER => differs(search, Edition::Y1966),
-            _ => differs(search, Edition::Y2003),
+        let told = self.searched.iter().filter(|(ship, height, wish, answer)| {
+            search_with(slip, ship, *height, *wish) != *answer
         });
         told.count()
     }
@@ -109,24 +91,6 @@ impl Questions {
     fn ship(&mut self, name: &str, expected: Expected, height: u64, wish: u64, raw: &RawShip) {
         self.lists.add(raw, after_houses(raw, height, wish));
         self.bytes(name, expected, height, wish, packed(raw));
-    }
-}
-
-impl Expected {
-    /// The refusal that the case is there for, if it is; stops if it is there for another length.
-    fn refusal(self, name: &str, answer: Result<i64, Refusal>) -> crate::Expected {
-        match self {
-            Poop(k) => {
-                assert_eq!(answer, Ok(k), "{name}");
-                None
-            }
-            Longer => {
-                assert!(answer.is_ok_and(|k| k > 0), "{name}: {answer:?}");
-                None
-            }
-            Refused(number, place) => refused(number, place),
-            Exactly(refusal) => Some(refusal),
-        }
     }
 }
 
@@ -163,7 +127,6 @@ pub fn cases() -> Questions {
     flagged_ships(&mut all);
     flagged_borders(&mut all);
     timber_flag(&mut all);
-    older::cases(&mut all);
     for slip in SLIPS {
         let (told, least) = (all.told_by(slip), if slip as usize >= LATER { 3 } else { 2 });
         assert!(told >= least, "too few cases tell {slip:?}: {told}");
@@ -177,12 +140,8 @@ pub fn cases() -> Questions {
 
 /// The mark with a poop of k dm, nothing if it is unfit.
 fn mark(raw: &RawShip, height: u64, k: i64) -> Option<u64> {
-    mark_in(Edition::Y2003, raw, height, k)
-}
-
-fn mark_in(edition: Edition, raw: &RawShip, height: u64, k: i64) -> Option<u64> {
     let ship = raw.check().expect("a valid ship");
-    summer_with_poop(&ship, height, k, edition).ok().map(|mark| mark as u64)
+    summer_with_poop(&ship, height, k).ok().map(|mark| mark as u64)
 }
 
 /// k3 to k6, and the ship whose mark rises with a longer poop.
@@ -733,50 +692,12 @@ enum Slip {
     TimberFloor,
     /// A length is unfit where LS is at or above D.
     TimberUnfit,
-    /// 2003 though 1966 is named.
-    EditionNever,
-    /// 1966 though 2003 is named.
-    EditionAlways,
-    /// 2003 with a poop, 1966 without one.
-    PoopIn2003,
-    /// 1966 with a poop, 2003 without one.
-    ZeroIn2003,
-    /// In 1966 the poop does not keep a house that it touches from being a bridge.
-    PoopNeverTouches,
-    /// In 1966 it keeps one that it ends 1 mm from from being a bridge.
-    PoopTouchesNear,
-    /// In 1966 it keeps one that touches an open house from being a bridge.
-    PoopTouchesOpen,
-    /// In 1966 the first house is no bridge with any poop.
-    PoopTakesBridge,
-    /// In 1966 the poop is a bridge.
-    PoopAsBridge,
-    /// In 1966 the poop is a long forecastle from 0.4 L on.
-    PoopAsLongForecastle,
-    /// In 1966 a poop of all the length is no long forecastle.
-    PoopNeverForecastle,
-    /// In 1966 no points are taken with a poop.
-    PoopWithoutPoints,
-    /// In 1966 the share is 2003's with a poop where the forecastle is short.
-    PoopByRule,
-    /// In 1966 the bow height is 2003's.
-    SearchBowOf2003,
-    /// In 1966 Cb is never above 1.0.
-    SearchCapped,
-    /// In 1966 the search ends before the poop touches the first house.
-    OlderNoTouching,
-    /// In 1966 it stops where the mark first rises.
-    OlderStopsAtRise,
-    /// In 1966 it halves the range as if the mark never rose.
-    OlderHalves,
 }
 
-/// The first slip about types, breadths, timber and the edition; one more case must tell each of these.
+/// The first slip about types, breadths and timber; one more case must tell each of these.
 const LATER: usize = Slip::AsksAsB as usize;
-/// The first slip about the edition.
-const OLDER: usize = Slip::EditionNever as usize;
 
-const SLIPS: [Slip; 50] = [
+const SLIPS: [Slip; 32] = [
     Slip::StopsAtRise,
     Slip::Halves,
     Slip::SkipsZero,
@@ -809,44 +730,7 @@ const SLIPS: [Slip; 50] = [
     Slip::TimberBow,
     Slip::TimberFloor,
     Slip::TimberUnfit,
-    Slip::EditionNever,
-    Slip::EditionAlways,
-    Slip::PoopIn2003,
-    Slip::ZeroIn2003,
-    Slip::PoopNeverTouches,
-    Slip::PoopTouchesNear,
-    Slip::PoopTouchesOpen,
-    Slip::PoopTakesBridge,
-    Slip::PoopAsBridge,
-    Slip::PoopAsLongForecastle,
-    Slip::PoopNeverForecastle,
-    Slip::PoopWithoutPoints,
-    Slip::PoopByRule,
-    Slip::SearchBowOf2003,
-    Slip::SearchCapped,
-    Slip::OlderNoTouching,
-    Slip::OlderStopsAtRise,
-    Slip::OlderHalves,
 ];
-
-/// The slip in the marks of 1966 that it comes to at this length.
-fn in_older_marks(slip: Slip, ship: &Ship, k: i64) -> Option<slips::Slip> {
-    let poop = k > 0;
-    match slip {
-        Slip::PoopNeverTouches if poop => Some(slips::Slip::OlderTouchingStern),
-        Slip::PoopTouchesNear if poop => Some(slips::Slip::OlderNear),
-        Slip::PoopTouchesOpen if poop => Some(slips::Slip::OlderTouchingOpen),
-        Slip::PoopTakesBridge if poop => Some(slips::Slip::OlderSecondNever),
-        Slip::PoopAsBridge if poop => Some(slips::Slip::OlderAtStern),
-        Slip::PoopAsLongForecastle if 250 * k > ship.length => Some(slips::Slip::OlderFortyCovered),
-        Slip::PoopNeverForecastle if 100 * k == ship.length => Some(slips::Slip::OlderFortyNever),
-        Slip::PoopWithoutPoints if poop => Some(slips::Slip::OlderPointsNever),
-        Slip::PoopByRule if poop => Some(slips::Slip::OlderRule),
-        Slip::SearchBowOf2003 => Some(slips::Slip::OlderBowOf2003),
-        Slip::SearchCapped => Some(slips::Slip::OlderCapped),
-        _ => None,
-    }
-}
 
 /// The slip in the marks that it comes to at this length.
 fn in_marks(slip: Slip, ship: &Ship, k: i64) -> Option<slips::Slip> {
@@ -866,12 +750,12 @@ fn in_marks(slip: Slip, ship: &Ship, k: i64) -> Option<slips::Slip> {
         Slip::TimberBow => Some(slips::Slip::FlagBow),
         Slip::TimberFloor => Some(slips::Slip::FlagFloor),
         Slip::TimberUnfit => Some(slips::Slip::TimberTwelve),
-        _ => in_older_marks(slip, ship, k),
+        _ => None,
     }
 }
 
 /// The mark with a poop of k dm, with a slip; nothing if it is unfit.
-fn mark_with(slip: Slip, ship: &Ship, height: u64, k: i64, edition: Edition) -> Option<i64> {
+fn mark_with(slip: Slip, ship: &Ship, height: u64, k: i64) -> Option<i64> {
     let mut longer = ship.clone();
     if k > 0 {
         let quarterdeck = slip == Slip::Quarterdeck;
@@ -885,30 +769,17 @@ fn mark_with(slip: Slip, ship: &Ship, height: u64, k: i64, edition: Edition) -> 
         (_, kind) => kind,
     };
     let touches = k > 0 && ship.houses.first().is_some_and(|first| first.aft == 100 * k);
-    if matches!(slip, Slip::NoTouching | Slip::OlderNoTouching) && touches {
+    if slip == Slip::NoTouching && touches {
         return None;
     }
-    let edition = edition_with(slip, k, edition);
     if let Some(slip) = in_marks(slip, ship, k) {
-        return slips::worked(&longer, Some(slip), edition).ok().map(|marks| marks.summer);
+        return slips::worked(&longer, Some(slip)).ok().map(|marks| marks.summer);
     }
-    let given = marks::marks(&longer, edition);
-    if let (Slip::AsksTimber, Ok(marks)) = (slip, given) {
+    if let (Slip::AsksTimber, Ok(marks)) = (slip, marks::marks(&longer)) {
         return Some(marks.timber.map_or(marks.summer, |timber| timber.summer));
     }
-    let refused = given.is_err() && slip != Slip::TakesRefused;
-    (!refused).then(|| marks::steps(&longer, edition).summer)
-}
-
-/// The edition that the marks with a poop of k dm are worked in under the slip.
-fn edition_with(slip: Slip, k: i64, edition: Edition) -> Edition {
-    match slip {
-        Slip::EditionNever => Edition::Y2003,
-        Slip::EditionAlways => Edition::Y1966,
-        Slip::PoopIn2003 if k > 0 => Edition::Y2003,
-        Slip::ZeroIn2003 if k == 0 => Edition::Y2003,
-        _ => edition,
-    }
+    let refused = marks::marks(&longer).is_err() && slip != Slip::TakesRefused;
+    (!refused).then(|| marks::steps(&longer).summer)
 }
 
 /// The breadths that the houses have with a poop under the slip.
@@ -926,19 +797,14 @@ fn put_breadths(slip: Slip, before: &[House], houses: &mut [House]) {
 }
 
 /// Refusals 12, 13, 15, 16 and the search, with a slip.
-fn search_with(
-    slip: Slip,
-    ship: &Ship,
-    height: u64,
-    wish: u64,
-    edition: Edition,
-) -> Result<i64, Refusal> {
-    let mark = |k: i64| mark_with(slip, ship, height, k, edition);
+fn search_with(slip: Slip, ship: &Ship, height: u64, wish: u64) -> Result<i64, Refusal> {
+    let mark = |k: i64| mark_with(slip, ship, height, k);
     let fits = |k: i64| match mark(k) {
         Some(mark) if slip == Slip::BelowWish => mark < wish as i64,
         Some(mark) => mark <= wish as i64,
         None => false,
     };
+    let nothing = Refusal::at(Refusal::NOTHING_FITS, 0);
     if slip == Slip::WishByFloor && ship.kind == Kind::Covers && wish < 150 {
         return Err(Refusal::at(Refusal::ASKED, 0));
     }
@@ -949,34 +815,23 @@ fn search_with(
             false => Err(Refusal::at(Refusal::NO_ROOM, 0)),
         };
     }
-    if slip == Slip::RefusesShip {
-        marks::marks(ship, edition)?;
-    }
-    found_with(slip, ship, mark, fits).ok_or(Refusal::at(Refusal::NOTHING_FITS, 0))
-}
-
-/// The first length that fits, with a slip.
-fn found_with(
-    slip: Slip,
-    ship: &Ship,
-    mark: impl Fn(i64) -> Option<i64>,
-    fits: impl Fn(i64) -> bool,
-) -> Option<i64> {
     let last = match slip {
         Slip::EndsBelowLength => (ship.length - 1) / 100,
         Slip::GoesBeyondLength => (ship.length + 99) / 100,
         _ => ship.length / 100,
     };
+    let mut lengths = 0..=last;
     match slip {
-        Slip::SkipsZero => (1..=last).find(|&k| fits(k)),
-        Slip::StopsAtRise | Slip::OlderStopsAtRise => {
+        Slip::RefusesShip => marks::marks(ship).map(|_| ())?,
+        Slip::SkipsZero => lengths = 1..=last,
+        Slip::StopsAtRise => {
             let rises = |&k: &i64| matches!((mark(k - 1), mark(k)), (Some(a), Some(b)) if b > a);
-            let end = (1..=last).find(rises).map_or(last, |k| k - 1);
-            (0..=end).find(|&k| fits(k))
+            lengths = 0..=(1..=last).find(rises).map_or(last, |k| k - 1);
         }
-        Slip::Halves | Slip::OlderHalves => halved(last, fits),
-        _ => (0..=last).find(|&k| fits(k)),
+        Slip::Halves => return halved(last, fits).ok_or(nothing),
+        _ => {}
     }
+    lengths.into_iter().find(|&k| fits(k)).ok_or(nothing)
 }
 
 /// The least length that fits, by halving the range again and again.

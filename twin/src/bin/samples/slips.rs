@@ -3,12 +3,10 @@
 //! The working below is the steps once more, with at most one slip in it. It is in i128: what fits an
 //! i64 when worked rightly need not fit with a slip.
 
-use twin::edition::Edition;
 use twin::marks::{self, increase, standard_height, tabular, Marks};
 use twin::record::{House, Kind, Ship, MAX_HOUSES};
 use twin::refusal::Refusal;
 
-mod older;
 mod timber;
 
 macro_rules! slips {
@@ -317,96 +315,6 @@ slips! {
     FlagFloor 40 "S and T with no floor with the flag",
     FlagWinter 40 "d/36 for W with the flag",
     FlagFresh 40 "d/48 for F with the flag, though certified",
-    // From here on in 1966, or in 2003 by a rule of 1966.
-    OlderNever 1 "2003 though 1966 is named",
-    OlderAlways 1 "1966 though 2003 is named",
-    OlderTurned 1 "the other edition than the one named",
-    OlderTimberNow 45 "LS in 2003 though 1966 is named",
-    OlderCapped 30 "Cb never above 1.0 in 1966",
-    OlderCappedTimber 30 "Cb never above 1.0 in LS of 1966",
-    OlderRowOf2003 37 "type B of 1966 by the row of 2003",
-    OlderLinesOnlyB 37 "B-60, B-100 and portable covers of 1966 by the row of 2003",
-    OlderLinesA 37 "type A of 1966 by the lines of type B",
-    OlderLinesBoth 37 "type B of 2003 by the lines of 1966",
-    OlderTimberLines 45 "LS of 1966 by the lines of 37",
-    OlderLineOne 37 "line I whatever the bridge",
-    OlderLineTwo 37 "line II without a bridge",
-    OlderLineBack 37 "line II without a bridge, line I with one",
-    OlderAnyBridge 37 "line II with any bridge",
-    OlderSteps 37 "line I up to a bridge of 0.2 L, then line II",
-    OlderToTenth 37 "line II from a bridge of 0.1 L on",
-    OlderUnlimited 37 "a bridge beyond 0.2 L beyond line II",
-    OlderByPlainTwoTenths 37 "line II from a bridge of plain length 0.2 L on",
-    OlderTouching 37 "a bridge that touches a house counts",
-    OlderTouchingAbaft 37 "a bridge that touches a house abaft counts",
-    OlderTouchingBefore 37 "a bridge that touches a house before it counts",
-    OlderTouchingForecastle 37 "a bridge that touches the forecastle counts",
-    OlderTouchingStern 37 "a bridge that touches a house at the stern counts",
-    OlderTouchingDeck 37 "a bridge that touches a quarterdeck counts",
-    OlderTouchingOpen 37 "a bridge that touches an open house does not count",
-    OlderNear 37 "a bridge 1 mm from a house does not count",
-    OlderAtStern 37 "a house from 0 on counts as a bridge",
-    OlderBeyondStern 37 "a house from abaft 0 counts as a bridge",
-    OlderAtBow 37 "a house up to L counts as a bridge",
-    OlderBeyondBow 37 "a house beyond L counts as a bridge",
-    OlderOpenBridge 37 "an open house counts as a bridge",
-    OlderAmidships 37 "a bridge counts amidships alone",
-    OlderFirstNever 37 "the first house is never a bridge",
-    OlderSecondNever 37 "the second house is never a bridge",
-    OlderFirst 37 "the first of several bridges",
-    OlderLast 37 "the last of several bridges",
-    OlderSum 37 "the sum of several bridges",
-    OlderLeast 37 "the least of several bridges",
-    OlderLongest 37 "of several bridges the one of the greatest plain length",
-    OlderBridgePlain 37 "the bridge's plain length",
-    OlderBridgeHeight 37 "the bridge without the ratio of breadths",
-    OlderBridgeBreadth 37 "the bridge without the ratio of heights",
-    OlderBridgeUp 37 "the bridge up",
-    OlderBridgeMm 37 "the bridge down to mm",
-    OlderFortyNever 37 "a forecastle above 0.4 L changes nothing",
-    OlderFortyAt 37 "line II from a forecastle of 0.4 L on",
-    OlderFortyFloored 37 "0.4 L on the forecastle's length in whole um",
-    OlderFortyPlain 37 "0.4 L on the forecastle's plain length",
-    OlderFortyCovered 37 "line II where E is above 0.4 L",
-    OlderFortyBridge 37 "line II with a bridge above 0.4 L alone, or a forecastle",
-    OlderPointsNever 37 "no points taken",
-    OlderPointsSigned 37 "points taken below zero",
-    OlderPointsA 37 "points taken from type A too",
-    OlderPointsOnlyB 37 "no points taken from B-60, B-100 and portable covers",
-    OlderPointsTimber 45 "no points taken from LS",
-    OlderPointsOnlyTimber 37 "points taken from LS alone",
-    OlderPointsWhole 37 "5 points for every forecastle below 0.07 L",
-    OlderPointsNoHouse 37 "no points without a forecastle",
-    OlderPointsNoneOnly 37 "points without a forecastle alone",
-    OlderPointsOfShare 37 "5 per cent of the share in place of 5 points",
-    OlderPointsTenth 37 "points below 0.1 L",
-    OlderPointsBeyond 37 "points added above 0.07 L",
-    OlderPointsPlain 37 "points by the forecastle's plain length",
-    OlderPointsHeight 37 "points without the ratio of breadths",
-    OlderPointsBoth 37 "points in place of 37(3) in 2003",
-    OlderRule 37 "37(3) of 2003 in place of points",
-    OlderRuleTimber 45 "37(3) of 2003 in place of points in LS",
-    OlderForecastleUp 37 "the forecastle up",
-    OlderForecastleMm 37 "the forecastle down to mm",
-    OlderShareUp 37 "share in 1966 up",
-    OlderShareNearest 37 "share in 1966 to the nearest millionth",
-    OlderShareTwice 37 "share in 1966 rounded before the points, too",
-    OlderLinesDown 37 "each line rounded before the bridge",
-    OlderTimberShareUp 45 "share of LS in 1966 up",
-    OlderProductUp 37 "product in 1966 up",
-    OlderBowOf2003 39 "bow height of 2003 in 1966",
-    OlderBowBoth 39 "bow height of 1966 in 2003",
-    OlderBowCapped 39 "Cb never above 1.0 in 1966",
-    OlderBowLeast 39 "Cb below 0.68 taken as it is in 1966",
-    OlderBowShort 39 "1966's rule for short ships from 250 m on",
-    OlderBowLong 39 "1966's rule for long ships below 250 m",
-    OlderBowBorder 39 "1966's rule for long ships from 240 m on",
-    OlderBowDown 39 "bow height of 1966 down",
-    OlderBowNoSheer 39 "no sheer at FP in 1966",
-    OlderBowNoForecastle 39 "no forecastle in 1966",
-    OlderBowAnyForecastle 39 "forecastle of any length in 1966",
-    OlderTwelve 12 "by S of 2003 in 1966",
-    OlderThirteen 13 "by the draught of 2003 in 1966",
 }
 
 fn down(number: i128, divisor: i128) -> i128 {
@@ -447,33 +355,20 @@ fn join(houses: &mut Vec<House>) {
     });
 }
 
-fn working(ship: &Ship, slip: Option<Slip>, edition: Edition) -> Working<'_> {
-    Working { ship, slip, edition, l: ship.length.into(), timber: false }
-}
-
-/// The marks in an edition, with a slip or none.
-pub fn worked(ship: &Ship, slip: Option<Slip>, edition: Edition) -> Result<Marks, Refusal> {
-    working(ship, slip, edition).marks()
-}
-
-/// The editions whose marks tell the slip: one that came before 1966 is told by those of 2003.
-fn editions(slip: Slip) -> &'static [Edition] {
-    match slip as usize >= Slip::OlderNever as usize {
-        true => &[Edition::Y2003, Edition::Y1966],
-        false => &[Edition::Y2003],
-    }
+/// The marks, with a slip or none.
+pub fn worked(ship: &Ship, slip: Option<Slip>) -> Result<Marks, Refusal> {
+    Working { ship, slip, l: ship.length.into(), timber: false }.marks()
 }
 
 /// Whether the slip changes the freeboard before the bow height, be it by a um.
 pub fn changes(ship: &Ship, slip: Slip) -> bool {
-    let corrected = |slip, edition| working(ship, slip, edition).corrected();
-    editions(slip).iter().any(|&edition| corrected(Some(slip), edition) != corrected(None, edition))
+    let corrected = |slip| Working { ship, slip, l: ship.length.into(), timber: false }.corrected();
+    corrected(Some(slip)) != corrected(None)
 }
 
 /// Whether the slip changes the ship's marks.
 pub fn tells(ship: &Ship, slip: Slip) -> bool {
-    let differ = |&edition| worked(ship, Some(slip), edition) != worked(ship, None, edition);
-    editions(slip).iter().any(differ)
+    worked(ship, Some(slip)) != worked(ship, None)
 }
 
 /// From here on each sort of houses is one house.
@@ -483,7 +378,6 @@ const ALONE: usize = 2;
 struct Working<'a> {
     ship: &'a Ship,
     slip: Option<Slip>,
-    edition: Edition,
     /// L, mm.
     l: i128,
     /// For LS.
@@ -520,15 +414,14 @@ impl Working<'_> {
         let summer = self.summer();
         let draught = i128::from(ship.depth) - summer;
         let sinks = draught < 0 || draught == 0 && !self.has(Slip::TwelveAbove);
-        let sinks = self.sinks_by_edition(self.sinks_by_timber(sinks));
+        let sinks = self.sinks_by_timber(sinks);
         Refusal::unless(!sinks || self.has(Slip::TwelveNever), Refusal::MARK_AT_DECK)?;
         let d = match self.has(Slip::DraughtMoulded) {
             true => i128::from(ship.moulded) - summer,
             false => draught,
         };
         let allowance = self.allowance(d);
-        let over = self.is_over(allowance, self.draught_by_edition(draught));
-        Refusal::unless(!over, Refusal::FRESH_ALLOWANCE)?;
+        Refusal::unless(!self.is_over(allowance, draught), Refusal::FRESH_ALLOWANCE)?;
         let low = summer - self.down(d, 48, Slip::TropicalUp);
         let tropical = match self.slip {
             Some(Slip::TropicalFloorNever) => low,
@@ -538,6 +431,12 @@ impl Working<'_> {
         };
         let parts = if self.with_flag(Slip::FlagWinter) { 36 } else { 48 };
         let winter = summer + self.up(d, parts, Slip::WinterDown);
+        let addition = match self.slip {
+            Some(Slip::NorthAtlanticAlways) => 50,
+            Some(Slip::NorthAtlanticNever) => 0,
+            Some(Slip::NorthAtlanticStrict) => 50 * i128::from(self.l < 100_000),
+            _ => 50 * i128::from(self.l <= 100_000),
+        };
         let least = match self.slip {
             Some(Slip::FreshFloor) => 50,
             Some(Slip::CoversFloorFresh) if ship.kind == Kind::Covers => 150,
@@ -548,21 +447,11 @@ impl Working<'_> {
             summer: summer as i64,
             tropical: tropical as i64,
             winter: winter as i64,
-            winter_north_atlantic: (winter + self.north_atlantic()) as i64,
+            winter_north_atlantic: (winter + addition) as i64,
             fresh: (summer - allowance).max(least) as i64,
             tropical_fresh: (tropical_fresh - allowance).max(least) as i64,
             timber: None,
         }))
-    }
-
-    /// 40(6)
-    fn north_atlantic(&self) -> i128 {
-        match self.slip {
-            Some(Slip::NorthAtlanticAlways) => 50,
-            Some(Slip::NorthAtlanticNever) => 0,
-            Some(Slip::NorthAtlanticStrict) => 50 * i128::from(self.l < 100_000),
-            _ => 50 * i128::from(self.l <= 100_000),
-        }
     }
 
     /// 40(7), and 40(8) if not certified.
@@ -938,8 +827,7 @@ impl Working<'_> {
     /// 30
     fn fullness(&self, freeboard: i128) -> i128 {
         let cb = i128::from(self.ship.cb);
-        let unlimited = self.has(Slip::FullnessUnlimited) || self.has_whole_cb();
-        let cb = if unlimited { cb } else { cb.min(10_000) };
+        let cb = if self.has(Slip::FullnessUnlimited) { cb } else { cb.min(10_000) };
         let applies = cb > 6_800 || self.has(Slip::FullnessBelow);
         let never = self.has(Slip::FullnessNever) || self.in_timber(Slip::TimberNoFullness);
         if applies && !never {
@@ -1070,37 +958,7 @@ impl Working<'_> {
 
     /// 37
     fn deduction(&self, effective: i128) -> i128 {
-        let share = match self.by_older_share() {
-            true => self.older_share(effective),
-            false => self.share_of_2003(effective),
-        };
-        let product = self.full_deduction() * share;
-        let older_up = self.has(Slip::OlderProductUp) && self.is_older();
-        match older_up || self.in_timber(Slip::TimberProductUp) {
-            true => up(product, 1_000_000),
-            false => self.down(product, 1_000_000, Slip::DeductUp),
-        }
-    }
-
-    /// 37(1)
-    fn full_deduction(&self) -> i128 {
         let l = self.l;
-        let point = |(x0, y0): (i128, i128), (x1, y1): (i128, i128)| {
-            let rise = (y1 - y0) * 1000 * (l - x0);
-            1000 * y0 + self.down(rise, x1 - x0, Slip::DeductFullUp)
-        };
-        let ends = [(24_000, 350), (85_000, 860), (122_000, 1_070)];
-        match self.slip {
-            Some(Slip::DeductKnot) if l < 122_000 => point(ends[0], ends[2]),
-            Some(Slip::DeductBeyond) if l >= 122_000 => point(ends[1], ends[2]),
-            _ if l < 85_000 => point(ends[0], ends[1]),
-            _ if l < 122_000 => point(ends[1], ends[2]),
-            _ => 1_070_000,
-        }
-    }
-
-    /// 37(2) and (3)
-    fn share_of_2003(&self, effective: i128) -> i128 {
         let asked = match (self.slip, self.ship.kind) {
             (Some(Slip::DeductAlways), _)
             | (Some(Slip::DeductB60Always), Kind::B60)
@@ -1112,11 +970,27 @@ impl Working<'_> {
             (_, kind) => kind != Kind::A,
         };
         let long = self.forecastle().is_some_and(|house| self.is_long(house));
-        match asked && !long {
-            // 20 per cent are those at no effective length.
-            true if self.in_timber(Slip::TimberTwenty) => self.share(0),
-            true => 0,
-            false => self.share(effective),
+        if asked && !long && !self.in_timber(Slip::TimberTwenty) {
+            return 0;
+        }
+        // 20 per cent are those at no effective length.
+        let effective = if asked && !long { 0 } else { effective };
+        let point = |(x0, y0): (i128, i128), (x1, y1): (i128, i128)| {
+            let rise = (y1 - y0) * 1000 * (l - x0);
+            1000 * y0 + self.down(rise, x1 - x0, Slip::DeductFullUp)
+        };
+        let ends = [(24_000, 350), (85_000, 860), (122_000, 1_070)];
+        let full = match self.slip {
+            Some(Slip::DeductKnot) if l < 122_000 => point(ends[0], ends[2]),
+            Some(Slip::DeductBeyond) if l >= 122_000 => point(ends[1], ends[2]),
+            _ if l < 85_000 => point(ends[0], ends[1]),
+            _ if l < 122_000 => point(ends[1], ends[2]),
+            _ => 1_070_000,
+        };
+        let share = self.share(effective);
+        match self.in_timber(Slip::TimberProductUp) {
+            true => up(full * share, 1_000_000),
+            false => self.down(full * share, 1_000_000, Slip::DeductUp),
         }
     }
 
@@ -1265,14 +1139,6 @@ impl Working<'_> {
 
     /// 39
     fn bow(&self) -> i128 {
-        let height = match self.has_older_bow() {
-            true => self.older_bow_height(),
-            false => self.bow_height_of_2003(),
-        };
-        height - 1000 * (self.bow_sheer() + self.bow_forecastle())
-    }
-
-    fn bow_height_of_2003(&self) -> i128 {
         let (ship, l) = (self.ship, self.l);
         let moulded = i128::from(if self.has(Slip::BowDepth) { ship.depth } else { ship.moulded });
         let cb = match i128::from(ship.cb) {
@@ -1294,7 +1160,8 @@ impl Working<'_> {
             _ => b2 >= 0,
         };
         let b1 = if upward { up(cubic, 5_000_000_000) } else { down(cubic, 5_000_000_000) };
-        self.up(b1 * b2, 1_000_000, Slip::BowDown)
+        let height = self.up(b1 * b2, 1_000_000, Slip::BowDown);
+        height - 1000 * (self.bow_sheer() + self.bow_forecastle())
     }
 
     fn bow_sheer(&self) -> i128 {
@@ -1302,7 +1169,6 @@ impl Working<'_> {
         let counts = match self.slip {
             Some(Slip::BowSheerAlways) => true,
             Some(Slip::BowSheerNever) => false,
-            Some(Slip::OlderBowNoSheer) if self.is_older() => false,
             Some(Slip::BowSheerAtZero) => sixth >= 0,
             _ => sixth > 0,
         };
@@ -1318,8 +1184,6 @@ impl Working<'_> {
         let (l, length) = (self.l, 1000 * self.within(house));
         let long_enough = match self.slip {
             Some(Slip::BowShortForecastle) => true,
-            Some(Slip::OlderBowAnyForecastle) if self.is_older() => true,
-            Some(Slip::OlderBowNoForecastle) if self.is_older() => false,
             Some(Slip::BowEffective) => {
                 let (um, parts) = self.effective(house);
                 um >= 70 * l * parts

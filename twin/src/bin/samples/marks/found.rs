@@ -3,7 +3,6 @@
 use super::{Cases, LEAST};
 use crate::ships::{self, decked, KINDS};
 use crate::slips::{tells, Slip, SLIPS};
-use twin::edition::Edition;
 use twin::marks;
 use twin::random::Random;
 use twin::record::{House, RawShip, Ship};
@@ -31,10 +30,8 @@ pub fn every_count(all: &mut Cases) {
 /// Ships with marks above the floor that come from regulations 28 to 38.
 fn corrected_decides(raw: &RawShip) -> bool {
     raw.check().is_ok_and(|ship| {
-        let steps = marks::steps(&ship, Edition::Y2003);
-        steps.corrected > steps.bow
-            && steps.summer > 50
-            && marks::marks(&ship, Edition::Y2003).is_ok()
+        let steps = marks::steps(&ship);
+        steps.corrected > steps.bow && steps.summer > 50 && marks::marks(&ship).is_ok()
     })
 }
 
@@ -62,7 +59,7 @@ fn kebab(slip: Slip) -> String {
 }
 
 fn search(random: &mut Random, slip: Slip) -> RawShip {
-    let good = |ship: &Ship| tells(ship, slip) && marks::marks(ship, Edition::Y2003).is_ok();
+    let good = |ship: &Ship| tells(ship, slip) && marks::marks(ship).is_ok();
     loop {
         let n = random.between(0, 8) as usize;
         let raw = match slip {

@@ -3,7 +3,6 @@
 use super::{telling, Cases};
 use crate::ships::{decked, house, k1, k2, plain, quarterdeck, sheer, with, KINDS};
 use crate::slips::Slip;
-use twin::edition::Edition;
 use twin::marks;
 use twin::record::RawShip;
 
@@ -99,7 +98,7 @@ fn longer(raw: RawShip) -> impl Iterator<Item = RawShip> {
 /// Whether the bow height raises the summer mark.
 fn telling_bow(raw: &RawShip) -> bool {
     let ship = raw.check().expect("a valid ship");
-    let steps = marks::steps(&ship, Edition::Y2003);
+    let steps = marks::steps(&ship);
     steps.bow > 1000 * (steps.corrected + 999).div_euclid(1000)
 }
 
@@ -116,8 +115,7 @@ pub fn floors(all: &mut Cases) {
         RawShip { sheer: sheer(86_000, 300).map(|mm| mm.min(8_191)), ..low(86_000, 5_000, 3_000) };
     all.marks("b-floor-far-below", &RawShip { kind: 1, ..lowest });
     // S about 50, then T about 50: a deeper ship has a greater S.
-    let summer =
-        |raw: &RawShip| marks::steps(&raw.check().expect("a valid ship"), Edition::Y2003).summer;
+    let summer = |raw: &RawShip| marks::steps(&raw.check().expect("a valid ship")).summer;
     let first_above = |least: i64, length: u64| {
         (length / 15..).find(|&depth| summer(&low(length, depth, 8_000)) >= least).unwrap_or(0)
     };
@@ -172,16 +170,14 @@ pub fn fresh(all: &mut Cases) {
 pub fn summer_at_deck(all: &mut Cases) {
     for (name, ship) in [("a-corrected", decked(0, 180_000, &[])), ("b-bow", k1())] {
         let of = |depth| RawShip { depth, ..ship.clone() };
-        let summer =
-            marks::steps(&of(1_000).check().expect("a valid ship"), Edition::Y2003).summer as u64;
+        let summer = marks::steps(&of(1_000).check().expect("a valid ship")).summer as u64;
         all.refused(&format!("{name}-depth-below-s-{summer}"), 12, 0, &of(summer - 1));
         all.refused(&format!("{name}-depth-at-s-{summer}"), 12, 0, &of(summer));
         all.marks(&format!("{name}-depth-above-s-{summer}"), &of(summer + 1));
     }
     // S is above L/15, so that it rises with D, though more slowly.
     let bent = |depth| RawShip { length: 100_000, depth, sheer: [-8_192; 6], ..k1() };
-    let summer =
-        |depth| marks::steps(&bent(depth).check().expect("a valid ship"), Edition::Y2003).summer;
+    let summer = |depth| marks::steps(&bent(depth).check().expect("a valid ship")).summer;
     let above = (6_667..).find(|&depth| summer(depth) < depth as i64).unwrap_or(0);
     assert_eq!(summer(above - 1), above as i64 - 1);
     all.refused("b-rising-s-depth-at-s", 12, 0, &bent(above - 1));
@@ -196,7 +192,7 @@ pub fn summer_at_deck(all: &mut Cases) {
 pub fn allowance_above_draught(all: &mut Cases) {
     for (kind, letter) in KINDS {
         let plain = decked(kind, 70_000, &[house(0, 9_000, 2_000)]);
-        let summer = marks::steps(&plain.check().expect("a valid ship"), Edition::Y2003).summer;
+        let summer = marks::steps(&plain.check().expect("a valid ship")).summer;
         let draught = plain.depth - summer as u64;
         let of = |displacement, immersion| RawShip { displacement, immersion, ..plain.clone() };
         all.marks(&format!("{letter}-allowance-at-draught"), &of(draught, 25));

@@ -1,5 +1,5 @@
-//! Records to work the marks of, in both editions: a line is the six marks, with the timber flag twelve, or one of
-//! refusals 1 to 13, 18 and 22 to 24.
+//! Records to work the marks of: the line is the six marks, with the timber flag twelve, or one of refusals
+//! 1 to 13, 18 and 22 to 24.
 
 mod borders;
 mod damaged;
@@ -7,7 +7,6 @@ mod found;
 mod houses;
 mod last;
 mod low;
-mod older;
 mod sheer;
 mod sides;
 mod timber;
@@ -22,7 +21,6 @@ use crate::sides::slips::Sides;
 use crate::slips::{self, tells, Slip, SLIPS};
 use crate::timber::slips::Timbers;
 use crate::{overlap, refused, Expected, Sample};
-use twin::edition::Edition;
 use twin::marks;
 use twin::record::{self, House, RawShip, Ship};
 
@@ -47,42 +45,26 @@ impl Cases {
     }
 
     fn bytes(&mut self, name: &str, expected: Expected, bytes: Vec<u8>) {
-        self.bytes_in(Edition::Y2003, name, expected, bytes);
-    }
-
-    /// What is expected is said of the line of this edition.
-    fn bytes_in(&mut self, edition: Edition, name: &str, expected: Expected, bytes: Vec<u8>) {
         let ship = record::read(&bytes);
-        let lines = Edition::ALL.map(|edition| {
-            let answer = ship.clone().and_then(|ship| marks::marks(&ship, edition));
-            if let Ok(ship) = &ship {
-                let again = slips::worked(ship, None, edition);
-                assert_eq!(answer, again, "{name}: not alike without a slip");
-            }
-            answer.map_or_else(|refusal| refusal.to_string(), |marks| marks.to_string())
-        });
-        self.heads.marks(&bytes, &lines[0]);
-        self.sides.marks(&bytes, &lines[0]);
-        self.timbers.marks(&bytes, &lines[0]);
-        self.samples.push(Sample::in_both(name, bytes, lines, edition, expected));
+        let answer = ship.clone().and_then(|ship| marks::marks(&ship));
+        if let Ok(ship) = ship {
+            assert_eq!(answer, slips::worked(&ship, None), "{name}: not alike without a slip");
+        }
+        let line = match answer {
+            Ok(marks) => marks.to_string(),
+            Err(refusal) => refusal.to_string(),
+        };
+        self.heads.marks(&bytes, &line);
+        self.sides.marks(&bytes, &line);
+        self.timbers.marks(&bytes, &line);
+        self.samples.push(Sample::new(name, bytes, line, expected));
     }
 
     fn ship(&mut self, name: &str, expected: Expected, raw: &RawShip) {
         // 12 or 13, were there no houses.
         let bare = RawShip { n: 0, ..raw.clone() }.check();
-        let later = bare.and_then(|ship| marks::marks(&ship, Edition::Y2003)).err();
-        self.lists.add(raw, later);
+        self.lists.add(raw, bare.and_then(|ship| marks::marks(&ship)).err());
         self.bytes(name, expected, packed(raw));
-    }
-
-    /// What is expected is said of the line of 1966. The list of houses is sound.
-    fn older(&mut self, name: &str, expected: Expected, raw: &RawShip) {
-        self.bytes_in(Edition::Y1966, &format!("older-{name}"), expected, packed(raw));
-    }
-
-    /// Marks in 1966.
-    fn older_marks(&mut self, name: &str, raw: &RawShip) {
-        self.older(name, None, raw);
     }
 
     fn refused(&mut self, name: &str, number: u8, place: usize, raw: &RawShip) {
@@ -184,7 +166,6 @@ pub fn cases() -> Cases {
     all.group("sides", damaged::sides);
     timber::groups(&mut all);
     all.group("timber", damaged::timber);
-    older::groups(&mut all);
     all.enough();
     all
 }

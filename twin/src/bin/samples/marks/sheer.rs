@@ -3,7 +3,6 @@
 use super::{deeper, telling, varied, Cases};
 use crate::ships::{decked, forecastle, house, open, plain, sheer, with, KINDS};
 use crate::slips::Slip;
-use twin::edition::Edition;
 use twin::marks::steps;
 use twin::record::RawShip;
 
@@ -123,7 +122,7 @@ fn middled(kind: u64, length: u64, reaches: bool, sheer: [i64; 6]) -> RawShip {
 /// The first of these ships for which the freeboard is a whole mm, and not for the bow's sake.
 fn whole_mm(raw: RawShip) -> RawShip {
     let whole = |raw: &RawShip| {
-        let steps = steps(&raw.check().expect("a valid ship"), Edition::Y2003);
+        let steps = steps(&raw.check().expect("a valid ship"));
         steps.corrected > steps.bow && steps.corrected % 1000 == 0
     };
     varied(raw).find(whole).expect("a freeboard of whole mm")

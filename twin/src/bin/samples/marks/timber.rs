@@ -4,7 +4,6 @@ use super::{deeper, telling, varied, Cases};
 use crate::ships::{bulk, decked, house, k1, k2, plain, sheer, with, TYPES};
 use crate::slips::Slip;
 use crate::timber::flagged;
-use twin::edition::Edition;
 use twin::marks;
 use twin::record::{House, RawShip};
 
@@ -28,7 +27,7 @@ pub fn groups(all: &mut Cases) {
 /// LS of the ship, be it at or above D.
 fn summer(raw: &RawShip) -> i64 {
     let ship = raw.check().expect("a valid ship");
-    marks::timber_steps(&ship, &marks::steps(&ship, Edition::Y2003), Edition::Y2003).summer
+    marks::timber_steps(&ship, &marks::steps(&ship)).summer
 }
 
 /// A ship with one house of all its length, and a bow that asks for little.
@@ -99,10 +98,7 @@ fn roundings(all: &mut Cases) {
         let raw = flagged(&decked(kind, 120_000, &[house(1, 30_000, 2_300)]));
         let whole = varied(raw).find(|raw| {
             let ship = raw.check().expect("a valid ship");
-            marks::timber_steps(&ship, &marks::steps(&ship, Edition::Y2003), Edition::Y2003)
-                .corrected
-                % 1000
-                == 0
+            marks::timber_steps(&ship, &marks::steps(&ship)).corrected % 1000 == 0
         });
         let whole = whole.expect("some fullness gives a whole mm");
         all.marks(&format!("timber-{}-whole-mm", TYPES[kind as usize]), &whole);
@@ -244,7 +240,7 @@ fn fresh(all: &mut Cases) {
 fn winter(all: &mut Cases) {
     let over = |raw: &RawShip| {
         let ship = raw.check().expect("a valid ship");
-        let (ls, s) = (summer(raw), marks::steps(&ship, Edition::Y2003).summer);
+        let (ls, s) = (summer(raw), marks::steps(&ship).summer);
         let part = |mark: i64, parts: i64| (ship.depth - mark + parts - 1).div_euclid(parts);
         ls + part(ls, 36) - s - part(s, 48)
     };
@@ -315,8 +311,7 @@ fn refused(all: &mut Cases) {
         // The bow height decides S; LS is far below.
         let of =
             |depth| flagged(&RawShip { cwf: 5_000, moulded: 8_000, depth, ..plain(kind, length) });
-        let s =
-            marks::steps(&of(1_000).check().expect("a valid ship"), Edition::Y2003).summer as u64;
+        let s = marks::steps(&of(1_000).check().expect("a valid ship")).summer as u64;
         all.refused(&format!("timber-{name}-{length}-12-at-s"), 12, 0, &of(s));
         all.refused(&format!("timber-{name}-{length}-12-far-below"), 12, 0, &of(s * 4 / 5));
         all.marks(&format!("timber-{name}-{length}-1-above-12"), &of(s + 1));

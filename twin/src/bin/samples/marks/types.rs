@@ -3,7 +3,6 @@
 use super::{fuller, telling, varied, Cases};
 use crate::ships::{bulk, decked, forecastle, house, k2, plain, quarterdeck, sheer, with, TYPES};
 use crate::slips::Slip;
-use twin::edition::Edition;
 use twin::marks;
 use twin::record::{House, RawShip};
 
@@ -139,7 +138,7 @@ fn floors(all: &mut Cases) {
     }
     // A deeper ship has a greater S; here without the floor.
     let before = |raw: &RawShip| {
-        let steps = marks::steps(&raw.check().expect("a valid ship"), Edition::Y2003);
+        let steps = marks::steps(&raw.check().expect("a valid ship"));
         (steps.corrected.max(steps.bow) + 999).div_euclid(1000)
     };
     let first = |kind, length: u64, least: i64, tropical: bool| {

@@ -18,6 +18,8 @@ total_eights (suc k) = omega (arith, total_eights k)
 
 pub pack_lt : (ws vs : List ℕ) → Fit ws vs → pack ws vs < 2 ^ total ws
 unfolding pack unpack piece number bytes
+pack_lt [] (v ∷ vs) f = elim f [ ]
+pack_lt (w ∷ ws) [] f = elim f [ ]
 pack_lt [] [] f = omega arith
 pack_lt (w ∷ ws) (v ∷ vs) f = rw (pow-add 2 w (total ws)) (digits_lt f.0 (pack_lt ws vs f.1))
 
@@ -32,6 +34,8 @@ unpack_high (w ∷ ws) j h n = rw (← add_assoc j w (total ws)) (ap₂ ◌∷�
 
 pub unpack_pack : (ws vs : List ℕ) → Fit ws vs → unpack ws (pack ws vs) ≡ vs
 unfolding pack unpack piece number bytes
+unpack_pack [] (v ∷ vs) f = elim f [ ]
+unpack_pack (w ∷ ws) [] f = elim f [ ]
 unpack_pack [] [] f = refl
 unpack_pack (w ∷ ws) (v ∷ vs) f =
     ap₂ ◌∷◌
@@ -113,6 +117,8 @@ written_read ws k e s f l =
 -- fields, one by one
 
 pub fit_each : (ws vs : List ℕ) → Fit ws vs → (i : ℕ) → get_or vs i 0 < 2 ^ get_or ws i 0
+fit_each [] (v ∷ vs) f i = elim f [ ]
+fit_each (w ∷ ws) [] f i = elim f [ ]
 fit_each [] [] f i = omega arith
 fit_each (w ∷ ws) (v ∷ vs) f zero = f.0
 fit_each (w ∷ ws) (v ∷ vs) f (suc i) = fit_each ws vs f.1 i

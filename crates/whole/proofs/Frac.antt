@@ -1,7 +1,7 @@
 -- Laws of specs/Frac.antt.
 use mathlib.Core.Path.{◌≡◌, refl, sym, ap₂}
 use mathlib.Core.Bool.{Bool, true, false, ◌&&◌}
-use Prim.Native.Nat.{ℕ, suc, pred, ◌*◌, ◌-◌, ◌<◌}
+use Prim.Native.Nat.{ℕ, zero, suc, pred, ◌*◌, ◌-◌, ◌<◌}
 use native.Mathlib.Omega.{arith}
 use native.Mathlib.Nat.{mul-pos, mul-le-mul, mul-le-mul_right, mul-lt-mul_of_pos_right, le_of_mul-le-mul_right, lt_of_mul-lt-mul_right, le-max_left, le-max_right, min-le_left, min-le_right}
 use Rattle.whole.specs.Pick.{pick}
@@ -10,6 +10,7 @@ use Rattle.whole.proofs.Divide.{sub_mul, max_mul, min_mul}
 use Rattle.whole.specs.Frac.{Frac, ◌≤f◌, ◌<f◌, ◌≈f◌, ◌<f?◌, whole, frac, ◌+f◌, ◌*f◌, ◌-f◌, ◌÷f◌, maxf, minf}
 
 pub bot_of : (d : ℕ) → 0 < d → suc (pred d) ≡ d
+bot_of zero h = elim h [ ]
 bot_of (suc d) h = refl
 
 -- ---- order
@@ -125,6 +126,7 @@ untested_frac false b x h k = omega (arith, h refl)
 
 -- ---- a factor or a bottom that a difference has in common
 pub one_bottom : (m n d : ℕ) → 0 < d → frac (m - n) d ≈f frac m d -f frac n d
+one_bottom m n zero h = elim h [ ]
 one_bottom m n (suc d) h = record { eq = omega (arith, sub_mul m n (suc d), sub_mul (m * suc d) (n * suc d) (suc d), sub_mul m n (suc d * suc d)) }
 
 pub factor_out : (x y z : Frac) → x *f y -f x *f z ≈f x *f (y -f z)

@@ -1,6 +1,6 @@
 -- Laws of specs/Round.antt.
 use mathlib.Core.Path.{◌≡◌, sym, ap₂, ◌∙◌}
-use Prim.Native.Nat.{ℕ, suc, ◌+◌, ◌*◌, ◌-◌, ◌/◌, ◌≤◌, ◌<◌, min, max}
+use Prim.Native.Nat.{ℕ, zero, suc, ◌+◌, ◌*◌, ◌-◌, ◌/◌, ◌≤◌, ◌<◌, min, max}
 use native.Mathlib.Omega.{arith, min_cases}
 use native.Mathlib.Nat.{mul_comm, mul-le-mul_right, mul-lt-mul_of_pos_right, lt_of_mul-lt-mul_right, min-eq_left, min-eq_right, div-mul-le_self, lt-div-mul-add, mul-div-mul_right}
 use Rattle.whole.specs.Divide.{ceil_div}
@@ -113,10 +113,12 @@ millionths_down x w = restate (omega arith) (omega arith) (near_times (frac 1 10
 
 -- a rule is the whole number next to its exact value x; code computes the quotient m / d, which has that value
 pub ceil_of : (m d : ℕ) {x : Frac} → 0 < d → frac m d ≈f x → ceil_div m d ≡ ceil x
+ceil_of m zero {x = x} h e = elim h [ ]
 ceil_of m (suc d) {x} h e =
     sym (ceil_cancel m (suc d) x.bot h x.pos) ∙ ap₂ ceil_div e.eq (omega arith) ∙ ceil_cancel x.top x.bot (suc d) x.pos h
 
 pub floor_of : (m d : ℕ) {x : Frac} → 0 < d → frac m d ≈f x → m / d ≡ floor x
+floor_of m zero {x = x} h e = elim h [ ]
 floor_of m (suc d) {x} h e =
     sym (mul-div-mul_right m (suc d) x.pos) ∙ ap₂ ◌/◌ e.eq (omega arith) ∙ mul-div-mul_right x.top x.bot h
 

@@ -26,4 +26,4 @@ put_two_spec =
     let w = c.before.before in
     let v = w.before.before.before.before in
     let a = v.before.before.before.args in
-    two_words a.out.now a.at a.a a.b (omega arith) v.put_word.ensures w.put-word2.ensures))
+    two_words a.out.now a.at a.a a.b (omega arith) v.put_word.ensures w.put_word-2.ensures))

@@ -10,26 +10,26 @@ use borrow.Author.Rules.{rules}
 use Rattle.bits.proofs.word.Statement.{statement}
 use Rattle.bits.proofs.word.Tie as tie
 
-abbrev invariant_loop : tie.invariant_loop
-invariant_loop s acc₀ i₀ acc i = (i ≤ length s) × (acc ≡ number (take i s))
+abbrev invariant-loop-i : tie.invariant-loop-i
+invariant-loop-i s acc₀ i₀ acc i = (i ≤ length s) × (acc ≡ number (take i s))
 
-abbrev decreases_loop : tie.decreases_loop
-decreases_loop s acc₀ i₀ acc i = length s - i
+abbrev decreases-loop-i : tie.decreases-loop-i
+decreases-loop-i s acc₀ i₀ acc i = length s - i
 
-room : (c : tie.In-loop invariant_loop decreases_loop) → c.before.loop.acc < 2 ^ 56
+room : (c : tie.In-loop-i invariant-loop-i decreases-loop-i) → c.before.loop-i.acc < 2 ^ 56
 room c =
     let l = c.before in
     let s = l.before.before.args.s.now in
-    let b : (i : ℕ) → get_or s i 0 < 256 = λ i. omega (arith, l.before.shared-slice-known.given i) in
-    omega (arith, number_room s l.loop.i b (omega arith) (omega arith))
+    let b : (i : ℕ) → get_or s i 0 < 256 = λ i. omega (arith, l.before.shared_slice_known-1.given i) in
+    omega (arith, number_room s l.loop-i.i b (omega arith) (omega arith))
 
 pub word_spec : {M : Type 1} → statement M
 unfolding number pack
 word_spec =
     tie.close
     (tie.spec
-    invariant_loop
-    decreases_loop
+    invariant-loop-i
+    decreases-loop-i
     (λ c. search rules)
     (λ c. omega (arith, room c))
     (λ c. search rules)
@@ -40,9 +40,9 @@ word_spec =
     (λ c.
     let l = c.before.before.before in
     let s = l.before.before.args.s.now in
-    let h : l.loop.i < length s = omega arith in
-    (omega arith, omega (arith, number_more s l.loop.i h)))
+    let h : l.loop-i.i < length s = omega arith in
+    (omega arith, omega (arith, number_more s l.loop-i.i h)))
     (λ c.
     let l = c.before in
     let s = l.before.before.args.s.now in
-    l.loop.invariant.1 ∙ ap number (take_all l.loop.i s (omega arith))))
+    l.loop-i.invariant.1 ∙ ap number (take_all l.loop-i.i s (omega arith))))

@@ -15,5 +15,5 @@ forecastle_taken_spec =
     (λ c. search rules)
     (λ c. search rules)
     (λ c κs. search rules)
-    (λ c. let a = c.before.before.args in (simp (le-leb (7 * a.l.0) (100 * a.length.0) (omega arith)) c.freeboard-of-mm.ensures, omega arith))
+    (λ c. let a = c.before.before.args in (simp (le-leb (7 * a.l.0) (100 * a.length.0) (omega arith)) c.freeboard_of_mm.ensures, omega arith))
     (λ c. let a = c.before.args in (simp (lt-leb (7 * a.l.0) (100 * a.length.0) (omega arith)), omega arith)))

@@ -13,5 +13,5 @@ sheer_taken_spec =
     tie.close
     (tie.spec
     (λ c κs. search rules)
-    (λ c. (simp (lt-ltb lift c.before.before.args.sixth.0 (omega arith)) c.freeboard-of-sheer.ensures, omega arith))
+    (λ c. (simp (lt-ltb lift c.before.before.args.sixth.0 (omega arith)) c.freeboard_of_sheer.ensures, omega arith))
     (λ c. (simp (le-ltb lift c.before.args.sixth.0 (omega arith)), omega arith)))

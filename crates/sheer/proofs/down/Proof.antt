@@ -13,8 +13,8 @@ down_spec =
     (λ c. search rules)
     (λ c κs. search rules)
     (λ c. let a = c.before.before.args in (
-      (c.div-up.ensures, omega (arith, floor_most (a.p - a.q) a.d 0 (omega arith))),
-      (rw c.div-up.ensures (ceil_most (a.q - a.p) a.d 9000000 (omega arith) (omega arith)), omega arith),
+      (c.div_up.ensures, omega (arith, floor_most (a.p - a.q) a.d 0 (omega arith))),
+      (rw c.div_up.ensures (ceil_most (a.q - a.p) a.d 9000000 (omega arith) (omega arith)), omega arith),
     ))
     (λ c. omega arith)
     (λ c. let a = c.before.args in (

@@ -22,18 +22,18 @@ forward_spec =
     (λ c. search rules)
     (λ c. search rules)
     (λ c κs. search rules)
-    (λ c. omega (arith, mul_most c.before.less.result c.less2.result 1721000000 6882000000 (omega arith) (omega arith)))
+    (λ c. omega (arith, mul_most c.before.less-excess.result c.less-part.result 1721000000 6882000000 (omega arith) (omega arith)))
     (λ c. let n = c.before in
     let g = n.before in
     let a = g.before.args in
-    (credit_none a.a a.f a.l.0 g.less.result n.less2.result g.less.ensures n.less2.ensures (omega arith), omega arith))
+    (credit_none a.a a.f a.l.0 g.less-excess.result n.less-part.result g.less-excess.ensures n.less-part.ensures (omega arith), omega arith))
     (λ c. let n = c.before.before in
     let g = n.before in
     let a = g.before.args in
-    (credit_whole a.a a.f a.l.0 g.less.result n.less2.result g.less.ensures n.less2.ensures (omega arith), omega arith))
+    (credit_whole a.a a.f a.l.0 g.less-excess.result n.less-part.result g.less-excess.ensures n.less-part.ensures (omega arith), omega arith))
     (λ c. let n = c.before.before in
     let g = n.before in
     let a = g.before.args in (
-      credit_part a.a a.f a.l.0 g.less.result n.less2.result g.less.ensures n.less2.ensures (omega arith),
-      omega (arith, mul_most g.less.result n.less2.result 1721000000 (667 * (a.l.0 + 30000)) (omega arith) (omega arith)),
+      credit_part a.a a.f a.l.0 g.less-excess.result n.less-part.result g.less-excess.ensures n.less-part.ensures (omega arith),
+      omega (arith, mul_most g.less-excess.result n.less-part.result 1721000000 (667 * (a.l.0 + 30000)) (omega arith) (omega arith)),
     )))

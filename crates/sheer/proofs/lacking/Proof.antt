@@ -27,8 +27,8 @@ lacking_spec =
     let L = a.l.0 in
     let m : frac c.before.less.result 240 ≈f lacks a.a (standard_after L) =
     rw c.before.less.ensures (lacks_same a.a (667 * (L + 30000)) (standard_after L) (after_same L)) in
-    let n : frac c.less2.result 240 ≈f lacks a.f (standard_forward L) =
-    rw c.less2.ensures (lacks_same a.f (1334 * (L + 30000)) (standard_forward L) (forward_same L)) in (
-      trans≈ {y = frac c.before.less.result 240 +f frac c.less2.result 240} (omega arith) (+_same m n),
+    let n : frac c.less-2.result 240 ≈f lacks a.f (standard_forward L) =
+    rw c.less-2.ensures (lacks_same a.f (1334 * (L + 30000)) (standard_forward L) (forward_same L)) in (
+      trans≈ {y = frac c.before.less.result 240 +f frac c.less-2.result 240} (omega arith) (+_same m n),
       omega arith,
     )))

@@ -17,9 +17,9 @@ between_spec =
     (λ c. search rules)
     (λ c. let a = c.args in scaled_Fits _ 1000 (a.hi - a.lo) (omega arith) (omega arith))
     (λ c κs. search rules)
-    (λ c κs. let a = c.before.args in (omega (arith, c.freeboard-of-mm.ensures), le_trans (rise a.lo a.hi (omega arith)) (omega arith)))
+    (λ c κs. let a = c.before.args in (omega (arith, c.freeboard_of_mm.ensures), le_trans (rise a.lo a.hi (omega arith)) (omega arith)))
     (λ c.
     let f = c.before in
     let a = f.before.args in
     let p : a.l.0 % 1000 ≤ 1000 = omega arith in
-    rw (c.sum.ensures, f.freeboard-of-mm.ensures) (refl, omega (arith, rise a.lo a.hi p))))
+    rw (c.sum.ensures, f.freeboard_of_mm.ensures) (refl, omega (arith, rise a.lo a.hi p))))

@@ -21,15 +21,15 @@ covers_add_spec =
     let n = c.before in
     let r = n.before in
     let g = r.before in
-    omega (arith, fits rows_27 108 g.greater.result r.row_of.ensures n.next.ensures c.rows.ensures.0 c.rows.ensures.1 (omega (arith, g.greater.ensures))))
+    omega (arith, fits rows_27 108 g.greater.result r.row_of-k.ensures n.next.ensures c.rows-rows.ensures.0 c.rows-rows.ensures.1 (omega (arith, g.greater.ensures))))
     (λ c.
     let s = c.before in
     let n = s.before in
     let r = n.before in
     let g = r.before in
-    let f = fits rows_27 108 g.greater.result r.row_of.ensures n.next.ensures s.rows.ensures.0 s.rows.ensures.1 (omega (arith, g.greater.ensures)) in (
+    let f = fits rows_27 108 g.greater.result r.row_of-k.ensures n.next.ensures s.rows-rows.ensures.0 s.rows-rows.ensures.1 (omega (arith, g.greater.ensures)) in (
       c.between.ensures.0
-          ∙ line rows_27 108 g.greater.result r.row_of.ensures n.next.ensures s.rows.ensures.0 s.rows.ensures.1
+          ∙ line rows_27 108 g.greater.result r.row_of-k.ensures n.next.ensures s.rows-rows.ensures.0 s.rows-rows.ensures.1
           ∙ ap (λ (l : ℕ). tabular 108 table27 l) g.greater.ensures,
       omega (arith, c.between.ensures.1, f.1),
     )))

@@ -11,15 +11,15 @@ tabular_b_spec =
     (tie.spec
     (λ c κs. search rules)
     (λ c κs. search rules)
-    (λ c κs. omega (arith, c.before.before.requires, c.before.row_of.ensures, c.next.ensures))
+    (λ c κs. omega (arith, c.before.before.requires, c.before.row_of-k.ensures, c.next.ensures))
     (λ c κs.
     let n = c.before in
     let r = n.before in
-    fits rows_b 24 r.before.args.l.0 r.row_of.ensures n.next.ensures c.rows.ensures.0 c.rows.ensures.1 (omega (arith, r.before.requires)))
+    fits rows_b 24 r.before.args.l.0 r.row_of-k.ensures n.next.ensures c.rows-rows.ensures.0 c.rows-rows.ensures.1 (omega (arith, r.before.requires)))
     (λ c.
     let s = c.before in
     let n = s.before in
     let r = n.before in
     let l = r.before.args.l.0 in
-    let f = fits rows_b 24 l r.row_of.ensures n.next.ensures s.rows.ensures.0 s.rows.ensures.1 (omega (arith, r.before.requires)) in
-    (c.between.ensures.0 ∙ line rows_b 24 l r.row_of.ensures n.next.ensures s.rows.ensures.0 s.rows.ensures.1, omega (arith, c.between.ensures.1, f.1))))
+    let f = fits rows_b 24 l r.row_of-k.ensures n.next.ensures s.rows-rows.ensures.0 s.rows-rows.ensures.1 (omega (arith, r.before.requires)) in
+    (c.between.ensures.0 ∙ line rows_b 24 l r.row_of-k.ensures n.next.ensures s.rows-rows.ensures.0 s.rows-rows.ensures.1, omega (arith, c.between.ensures.1, f.1))))

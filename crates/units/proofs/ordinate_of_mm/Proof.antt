@@ -28,11 +28,11 @@ ordinate_of_mm_spec =
     (λ c κs. search rules)
     (λ c κs. search rules)
     (λ c. search rules)
-    (λ c. sym (pick_true _ _ _ (sym (low c.before) ∙ c.if1.true)))
+    (λ c. sym (pick_true _ _ _ (sym (low c.before) ∙ c.if-below_zero-size.true)))
     (λ c κs. search rules)
     (λ c.
     let z = c.before.before in
     let s = z.before.before in
-    c.counted-from.ensures
+    c.counted_from.ensures
     ∙ ap (counted_from lift) (to_z-of_z w64 s.args.mm s.ranges.mm)
-    ∙ sym (pick_false _ _ _ (sym (low z) ∙ c.before.if1.false))))
+    ∙ sym (pick_false _ _ _ (sym (low z) ∙ c.before.if-below_zero-size.false))))

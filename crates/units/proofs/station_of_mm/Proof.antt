@@ -11,4 +11,4 @@ station_of_mm_spec =
     tie.close
     (tie.spec
     (λ c κs. search rules)
-    (λ c. c.counted-from.ensures ∙ ap (counted_from datum) (to_z-of_z w64 c.before.args.mm c.before.ranges.mm)))
+    (λ c. c.counted_from.ensures ∙ ap (counted_from datum) (to_z-of_z w64 c.before.args.mm c.before.ranges.mm)))

@@ -36,22 +36,22 @@ below n f t = go n f (to_z-of_z w64 n f) (ap (λ (z : ℤ). lt_z z (pos 0)) (sym
         let k : negsuc 0 -ℤ to_z w64 (of_z w64 (negsuc a)) ≡ pos a = ap (λ (z : ℤ). negsuc 0 -ℤ z) e ∙ down a in
         record { k = a; is = refl; small = f.sfits; taken = k; read = ap (λ (z : ℤ). to_z w64 (of_z w64 z)) k ∙ to_z-of_z w64 (pos a) (sfits_of f.sfits) }
 
-sub_result : tie.Need-overflow-sub-result
-sub_result c = let b = below c.before.args.n c.before.ranges.n c.if1.true in subst (λ (z : ℤ). SFits w64 z) (sym b.taken) (sfits_of b.small)
+sub_result : tie.Need-overflow_sub-result
+sub_result c = let b = below c.before.args.n c.before.ranges.n c.if-n-lt0.true in subst (λ (z : ℤ). SFits w64 z) (sym b.taken) (sfits_of b.small)
 
-cast_result : tie.Need-overflow-cast-result
+cast_result : tie.Need-overflow_cast-result
 cast_result c =
-    let b = below c.before.args.n c.before.ranges.n c.if1.true in
+    let b = below c.before.args.n c.before.ranges.n c.if-n-lt0.true in
     subst (λ (z : ℤ). T (non_neg z) × Fits w64 (nat_abs z)) (sym b.read) (tt, record { fits = lt_of_lt_of_le b.small (lit≤ tt) })
 
-add_result : tie.Need-overflow-add-result
+add_result : tie.Need-overflow_add-result
 add_result c =
-    let b = below c.before.args.n c.before.ranges.n c.if1.true in
+    let b = below c.before.args.n c.before.ranges.n c.if-n-lt0.true in
     subst (λ (z : ℤ). Fits w64 (nat_abs z + 1)) (sym b.read) (record { fits = omega (arith, b.small) })
 
-cast_result_2 : tie.Need-overflow-cast-result-2
+cast_result_2 : tie.Need-overflow_cast-result-else-n-lt0
 cast_result_2 c = subst (λ (z : ℤ). T (non_neg z) × Fits w64 (nat_abs z)) (sym (to_z-of_z w64 c.before.args.n c.before.ranges.n))
-    (go c.before.args.n c.before.ranges.n (ap (λ (z : ℤ). lt_z z (pos 0)) (sym (to_z-of_z w64 c.before.args.n c.before.ranges.n)) ∙ c.if1.false))
+    (go c.before.args.n c.before.ranges.n (ap (λ (z : ℤ). lt_z z (pos 0)) (sym (to_z-of_z w64 c.before.args.n c.before.ranges.n)) ∙ c.if-n-lt0.false))
   where
     go : (n : ℤ) → SFits w64 n → lt_z n (pos 0) ≡ false → T (non_neg n) × Fits w64 (nat_abs n)
     go (pos a) f t = (tt, record { fits = lt_of_lt_of_le f.sfits (lit≤ tt) })
@@ -62,13 +62,13 @@ most : (n : ℤ) → SFits w64 n → nat_abs n ≤ 2 ^ 63
 most (pos a) f = omega (arith, f.sfits)
 most (negsuc a) f = omega (arith, f.sfits)
 
-returns : tie.Need-returns
+returns : tie.Need-returns-then-n-lt0
 returns c =
-    let b = below c.before.args.n c.before.ranges.n c.if1.true in
+    let b = below c.before.args.n c.before.ranges.n c.if-n-lt0.true in
     let e = ap (λ (z : ℤ). nat_abs z + 1) b.read ∙ add-one b.k ∙ sym (ap nat_abs b.is) in
     (e, rw e (most c.before.args.n c.before.ranges.n))
 
-returns_2 : tie.Need-returns-2
+returns_2 : tie.Need-returns-else-n-lt0
 returns_2 c =
     let e = ap nat_abs (to_z-of_z w64 c.before.args.n c.before.ranges.n) in
     (e, rw e (most c.before.args.n c.before.ranges.n))

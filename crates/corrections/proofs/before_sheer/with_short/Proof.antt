@@ -11,7 +11,7 @@ unfolding pick
 with_short_spec =
     tie.close
     (tie.spec
-    (λ c. (simp (not-true c.before.args.b c.if1.true) (omega arith), omega arith))
+    (λ c. (simp (not-true c.before.args.b c.if-not-b.true) (omega arith), omega arith))
     (λ c κs. search rules)
     (λ c κs. search rules)
     (λ c.

@@ -24,8 +24,8 @@ addition_spec =
     (λ c κs. (omega arith, room 900000 120000 7200 (omega arith) (omega arith) (omega arith) tt))
     (λ c.
     let a = c.before.before.before.args in
-    let e : c.mul-div-up.result ≡ depth_addition a.length.0 a.depth.0 =
-    c.mul-div-up.ensures
+    let e : c.mul_div_up.result ≡ depth_addition a.length.0 a.depth.0 =
+    c.mul_div_up.ensures
     ∙ depth_quotient a.length.0 a.depth.0 a.length.0 480 (omega arith) (omega arith) (simp (lt-ltb a.length.0 120000 (omega arith)) (omega arith)) in
     (e, rw e (depth_most a.length.0 a.depth.0 (omega arith))))
     (λ c. search rules)

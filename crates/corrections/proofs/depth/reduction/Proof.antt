@@ -27,20 +27,20 @@ reduction_spec =
     (λ c.
     let n = c.before in
     let a = n.before.args in
-    (simp (le-ltb (a.depth.0 * 15) (a.length.0 * 1) (omega (arith, n.less.ensures))), omega arith))
+    (simp (le-ltb (a.depth.0 * 15) (a.length.0 * 1) (omega (arith, n.less-lacking.ensures))), omega arith))
     (λ c.
     let a = c.before.before.before.args in
     (sym (reduction_none a.length.0 a.depth.0 (frac a.ratio.top a.ratio.bottom) (omega arith)), omega arith))
     (λ c.
     let n = c.before.before.before in
-    omega (arith, mul_most n.less.result n.before.args.length.0 120000 120000 (omega (arith, n.less.ensures)) (omega arith)))
+    omega (arith, mul_most n.less-lacking.result n.before.args.length.0 120000 120000 (omega (arith, n.less-lacking.ensures)) (omega arith)))
     (λ c. search rules)
     (λ c κs.
     let n = c.before.before.before in
     let a = n.before.args in
-    let m : n.less.result * a.length.0 ≤ 14400000000 =
-    omega (arith, mul_most n.less.result a.length.0 120000 120000 (omega (arith, n.less.ensures)) (omega arith)) in
-    (omega arith, omega (arith, mul_most (n.less.result * a.length.0) a.ratio.top 14400000000 134217728 m (omega arith))))
+    let m : n.less-lacking.result * a.length.0 ≤ 14400000000 =
+    omega (arith, mul_most n.less-lacking.result a.length.0 120000 120000 (omega (arith, n.less-lacking.ensures)) (omega arith)) in
+    (omega arith, omega (arith, mul_most (n.less-lacking.result * a.length.0) a.ratio.top 14400000000 134217728 m (omega arith))))
     (λ c.
     let n = c.before.before.before.before in
     let a = n.before.args in
@@ -48,14 +48,14 @@ reduction_spec =
     let d = a.depth.0 in
     let t = a.ratio.top in
     let b = a.ratio.bottom in
-    bounded l d t b c.mul-div-down.result (omega arith) (omega arith) (omega arith)
-    (rw n.less.ensures at c.mul-div-down.ensures ∙ reduction_quotient l d l 480 t b (omega (arith, n.less.ensures)) (omega arith) (omega arith) (simp (lt-ltb l 120000 (omega arith)) (omega arith))))
+    bounded l d t b c.mul_div_down.result (omega arith) (omega arith) (omega arith)
+    (rw n.less-lacking.ensures at c.mul_div_down.ensures ∙ reduction_quotient l d l 480 t b (omega (arith, n.less-lacking.ensures)) (omega arith) (omega arith) (simp (lt-ltb l 120000 (omega arith)) (omega arith))))
     (λ c. search rules)
     (λ c. search rules)
     (λ c κs.
     let n = c.before.before.before in
-    let m = n.less.result * 250 in
-    (omega arith, omega (arith, mul_most m n.before.args.ratio.top 91250000 134217728 (omega (arith, n.less.ensures)) (omega arith))))
+    let m = n.less-lacking.result * 250 in
+    (omega arith, omega (arith, mul_most m n.before.args.ratio.top 91250000 134217728 (omega (arith, n.less-lacking.ensures)) (omega arith))))
     (λ c.
     let n = c.before.before.before.before in
     let a = n.before.args in

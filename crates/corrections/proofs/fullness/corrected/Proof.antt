@@ -21,5 +21,5 @@ corrected_spec =
     (λ c κs. (omega arith, room 4294967296 18800 13600 (omega arith) (omega arith) (omega arith) tt))
     (λ c.
     let a = c.before.before.args in
-    let e : c.mul-div-up.result ≡ fullness a.cb a.sum.0 = simp (lt-ltb 6800 a.cb (omega arith)) c.mul-div-up.ensures in
+    let e : c.mul_div_up.result ≡ fullness a.cb a.sum.0 = simp (lt-ltb 6800 a.cb (omega arith)) c.mul_div_up.ensures in
     (e, rw e (fullness_most a.cb a.sum.0 (omega arith)))))

@@ -30,5 +30,5 @@ addition_spec =
     (λ c κs. (omega arith, room 35000000 228000 40000000 (omega arith) (omega arith) (omega arith) tt))
     (λ c.
     let a = c.before.before.before.args in
-    let e : c.mul-div-up.result ≡ short_b a.length.0 a.effective.0 = c.mul-div-up.ensures ∙ short_quotient a.length.0 a.effective.0 (omega arith) in
+    let e : c.mul_div_up.result ≡ short_b a.length.0 a.effective.0 = c.mul_div_up.ensures ∙ short_quotient a.length.0 a.effective.0 (omega arith) in
     (e, rw e (short_most a.length.0 a.effective.0 (omega arith)))))

@@ -11,5 +11,5 @@ for_timber_spec =
     tie.close
     (tie.spec
     (λ c κs. search rules)
-    (λ c. sym (pick_true _ _ _ (sym c.before.is-reduced.ensures ∙ c.if1.true)))
-    (λ c. sym (pick_false _ _ _ (sym c.before.is-reduced.ensures ∙ c.if1.false))))
+    (λ c. sym (pick_true _ _ _ (sym c.before.is_reduced.ensures ∙ c.if-is_reduced.true)))
+    (λ c. sym (pick_false _ _ _ (sym c.before.is_reduced.ensures ∙ c.if-is_reduced.false))))

@@ -13,7 +13,7 @@ after_spec =
     (tie.spec
     (λ c. search rules)
     (λ c. search rules)
-    (λ c. rw c.enum_told.given.1 refl)
+    (λ c. rw c.in-Accepted.is refl)
     (λ c.
     let v = c.before in
     let r = v.v.given.0.0 in

@@ -50,7 +50,7 @@ told_spec =
     (λ c κs. search rules)
     (λ c. search rules)
     (λ c κs. search rules)
-    (λ c. c.refused.ensures ∙ sym (ap refused_as c.before.enum_told.given.1))
+    (λ c. c.refused.ensures ∙ sym (ap refused_as c.before.in-ShortRecord.is))
     (λ c. c.refused2.ensures ∙ sym (ap refused_as c.before.enum-told2.given.1))
     (λ c. c.refused3.ensures ∙ sym (ap refused_as c.before.enum-told3.given.1))
     (λ c. c.refused4.ensures ∙ sym (ap refused_as c.before.enum-told4.given.1))

@@ -14,4 +14,4 @@ rows_spec =
     (λ c. search rules)
     (λ c. search rules)
     (λ c κs. search rules)
-    (λ c. (c.before.wide.ensures.0, c.wide2.ensures.0)))
+    (λ c. (c.before.wide-lo.ensures.0, c.wide-hi.ensures.0)))

@@ -17,11 +17,11 @@ mean_sheer_spec =
     (λ c. search rules)
     (λ c κs. search rules)
     (λ c κs. search rules)
-    (λ c. let m = c.mean-of.ensures in
+    (λ c. let m = c.mean_of.ensures in
     let h = c.before.before.before.before.before in (
       (
-        rw (m.0.0, c.before.half2.ensures.0, h.half.ensures.0),
-        rw (m.0.1, c.before.half2.ensures.0, h.half.ensures.0),
+        rw (m.0.0, c.before.half-f.ensures.0, h.half-a.ensures.0),
+        rw (m.0.1, c.before.half-f.ensures.0, h.half-a.ensures.0),
       ),
       m.1,
     )))

@@ -12,4 +12,4 @@ made_full_spec =
     (tie.spec
     (λ c κs. search rules)
     (λ c κs. search rules)
-    (λ c. (rw (c.corrected.ensures.0, c.before.with-short.ensures.0), omega arith)))
+    (λ c. (rw (c.corrected.ensures.0, c.before.with_short.ensures.0), omega arith)))

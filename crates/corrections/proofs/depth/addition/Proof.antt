@@ -33,7 +33,7 @@ addition_spec =
     (λ c κs. search rules)
     (λ c.
     let a = c.before.before.before.args in
-    let e : c.mul-div-up2.result ≡ depth_addition a.length.0 a.depth.0 =
-    c.mul-div-up2.ensures
+    let e : c.mul_div_up-2.result ≡ depth_addition a.length.0 a.depth.0 =
+    c.mul_div_up-2.ensures
     ∙ depth_quotient a.length.0 a.depth.0 250 1 (omega arith) (omega arith) (simp (le-ltb a.length.0 120000 (omega arith)) (omega arith)) in
     (e, rw e (depth_most a.length.0 a.depth.0 (omega arith)))))

@@ -63,5 +63,5 @@ reduction_spec =
     let d = a.depth.0 in
     let t = a.ratio.top in
     let b = a.ratio.bottom in
-    bounded l d t b c.mul-div-down2.result (omega arith) (omega arith) (omega arith)
-    (rw n.less.ensures at c.mul-div-down2.ensures ∙ reduction_quotient l d 250 1 t b (omega (arith, n.less.ensures)) (omega arith) (omega arith) (simp (le-ltb l 120000 (omega arith)) (omega arith)))))
+    bounded l d t b c.mul_div_down-2.result (omega arith) (omega arith) (omega arith)
+    (rw n.less-lacking.ensures at c.mul_div_down-2.ensures ∙ reduction_quotient l d 250 1 t b (omega (arith, n.less-lacking.ensures)) (omega arith) (omega arith) (simp (le-ltb l 120000 (omega arith)) (omega arith)))))

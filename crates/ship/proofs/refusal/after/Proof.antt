@@ -15,6 +15,5 @@ after_spec =
     (λ c. search rules)
     (λ c. rw c.in-Accepted.is refl)
     (λ c.
-    let v = c.before in
-    let r = v.v.given.0.0 in
-    rw v.v.given.1 (sym (beside_refusal r (paper v.before.before.args.below) (refused_as r)))))
+    let r = c.in-Refused.r in
+    rw c.in-Refused.is (sym (beside_refusal r (paper c.args.below) (refused_as r)))))

@@ -17,28 +17,28 @@ line_of_spec =
     (λ c.
     let t = c.before in
     let a = t.before.args in
-    (c.tabular-a.ensures.0 ∙ line_a a.kind a.l.0 (omega arith) t.if1.true, omega (arith, c.tabular-a.ensures.1)))
+    (c.tabular_a.ensures.0 ∙ line_a a.kind a.l.0 (omega arith) t.if-kind.true, omega (arith, c.tabular_a.ensures.1)))
     (λ c κs. search rules)
     (λ c.
     let t = c.before in
     let l = t.before.before.args.l.0 in
-    (c.line-b-60.ensures.0 ∙ sym (ap (λ (k : ℕ). (basis_of k l).line) t.if2.true), omega (arith, c.line-b-60.ensures.1)))
+    (c.line-b-60.ensures.0 ∙ sym (ap (λ (k : ℕ). (basis_of k l).line) t.if-kind-eq-B_60.true), omega (arith, c.line-b-60.ensures.1)))
     (λ c κs. search rules)
     (λ c κs.
     let t = c.before in
-    t.before.before.before.requires.1.1 c.if3.true)
+    t.before.before.before.requires.1.1 c.if-kind-eq-PORTABLE_COVERS.true)
     (λ c κs. search rules)
     (λ c.
     let v = c.before in
     let t = v.before in
     let b = t.before in
     let l = b.before.before.before.args.l.0 in (
-      c.sum.ensures ∙ (λ i. b.tabular-b.ensures.0 i + v.covers-add.ensures.0 i) ∙ sym (ap (λ (k : ℕ). (basis_of k l).line) t.if3.true),
-      omega (arith, c.sum.ensures, b.tabular-b.ensures.1, v.covers-add.ensures.1),
+      c.sum.ensures ∙ (λ i. b.tabular_b-b.ensures.0 i + v.covers-add.ensures.0 i) ∙ sym (ap (λ (k : ℕ). (basis_of k l).line) t.if-kind-eq-PORTABLE_COVERS.true),
+      omega (arith, c.sum.ensures, b.tabular_b-b.ensures.1, v.covers-add.ensures.1),
     ))
     (λ c.
     let b = c.before in
     let e = b.before in
     let o = e.before in
     let a = o.before.args in
-    (b.tabular-b.ensures.0 ∙ line_b a.kind a.l.0 (omega arith) o.if1.false e.if2.false c.if3.false, omega (arith, b.tabular-b.ensures.1))))
+    (b.tabular_b-b.ensures.0 ∙ line_b a.kind a.l.0 (omega arith) o.if-kind.false e.if-kind-eq-B_60.false c.if-kind-eq-PORTABLE_COVERS.false, omega (arith, b.tabular_b-b.ensures.1))))

@@ -8,46 +8,46 @@ use Rattle.decimal.proofs.Digits.{digit, some_bytes, no_bytes, not_a_digit, too_
 use Rattle.decimal.proofs.parse.Statement.{statement}
 use Rattle.decimal.proofs.parse.Tie as tie
 
-abbrev invariant_loop : tie.invariant_loop
-invariant_loop s v₀ i₀ v i = (i ≤ length s) × (v < 2 ^ 64) × (number_from v (drop i s) ≡ parsed s)
+abbrev invariant-loop-i : tie.invariant-loop-i
+invariant-loop-i s v₀ i₀ v i = (i ≤ length s) × (v < 2 ^ 64) × (number_from v (drop i s) ≡ parsed s)
 
-abbrev decreases_loop : tie.decreases_loop
-decreases_loop s v₀ i₀ v i = length s - i
+abbrev decreases-loop-i : tie.decreases-loop-i
+decreases-loop-i s v₀ i₀ v i = length s - i
 
 pub parse_spec : {M : Type 1} → statement M
 parse_spec =
     tie.close
     (tie.spec
-    invariant_loop
-    decreases_loop
+    invariant-loop-i
+    decreases-loop-i
     (λ c. no_bytes c.before.args.s.now (omega arith))
     (λ c. (omega arith, omega arith, some_bytes c.before.args.s.now (omega arith)))
     (λ c. omega arith)
-    (λ c. omega (arith, c.shared-slice-known.given c.before.before.loop.i))
-    (λ c. let p = c.before.before.before.loop in
+    (λ c. omega (arith, c.shared_slice_known-1.given c.before.before.loop-i.i))
+    (λ c. let p = c.before.before.before.loop-i in
     let s = c.before.before.before.before.before.args.s.now in
-    sym (not_a_digit s p.v p.i (omega arith) c.if2.true) ∙ p.invariant.2)
-    (λ c. let p = c.before.before.before.loop in
+    sym (not_a_digit s p.v p.i (omega arith) c.if-b.true) ∙ p.invariant.2)
+    (λ c. let p = c.before.before.before.loop-i in
     let s = c.before.before.before.before.before.args.s.now in
-    omega (arith, digit (get_or s p.i 0) c.if2.false))
-    (λ c. let p = c.before.before.before.loop in
+    omega (arith, digit (get_or s p.i 0) c.if-b.false))
+    (λ c. let p = c.before.before.before.loop-i in
     let s = c.before.before.before.before.before.args.s.now in
-    omega (arith, digit (get_or s p.i 0) c.if2.false))
-    (λ c. let p = c.before.before.before.before.loop in
+    omega (arith, digit (get_or s p.i 0) c.if-b.false))
+    (λ c. let p = c.before.before.before.before.loop-i in
     let s = c.before.before.before.before.before.before.args.s.now in
-    let d = digit (get_or s p.i 0) c.before.if2.false in
-    sym (too_large s p.v p.i (omega arith) c.before.if2.false (omega arith)) ∙ p.invariant.2)
-    (λ c. let p = c.before.before.before.before.loop in
+    let d = digit (get_or s p.i 0) c.before.if-b.false in
+    sym (too_large s p.v p.i (omega arith) c.before.if-b.false (omega arith)) ∙ p.invariant.2)
+    (λ c. let p = c.before.before.before.before.loop-i in
     let s = c.before.before.before.before.before.before.args.s.now in
-    omega (arith, digit (get_or s p.i 0) c.before.if2.false))
-    (λ c. let p = c.before.before.before.before.loop in
+    omega (arith, digit (get_or s p.i 0) c.before.if-b.false))
+    (λ c. let p = c.before.before.before.before.loop-i in
     let s = c.before.before.before.before.before.before.args.s.now in
-    omega (arith, digit (get_or s p.i 0) c.before.if2.false))
+    omega (arith, digit (get_or s p.i 0) c.before.if-b.false))
     (λ c. omega arith)
     (λ c. omega arith)
-    (λ c. let p = c.before.before.before.before.loop in
+    (λ c. let p = c.before.before.before.before.loop-i in
     let s = c.before.before.before.before.before.before.args.s.now in
-    let d = digit (get_or s p.i 0) c.before.if2.false in
-    (omega arith, omega arith, sym (taken s p.v p.i (omega arith) c.before.if2.false (omega arith)) ∙ p.invariant.2))
-    (λ c. let p = c.before.loop in
+    let d = digit (get_or s p.i 0) c.before.if-b.false in
+    (omega arith, omega arith, sym (taken s p.v p.i (omega arith) c.before.if-b.false (omega arith)) ∙ p.invariant.2))
+    (λ c. let p = c.before.loop-i in
     sym (all_taken c.before.before.before.args.s.now p.v p.i (omega arith)) ∙ p.invariant.2))

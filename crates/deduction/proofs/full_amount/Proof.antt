@@ -24,10 +24,10 @@ full_amount_spec =
     (λ c κs. search rules)
     (λ c.
     let l = c.before.before.before.before.before.args.length.0 in
-    let e : c.sum2.result.0 ≡ full l = omega (arith, full_to_122 l (omega arith) (omega arith)) in
+    let e : c.sum-then-l-lt122000.result.0 ≡ full l = omega (arith, full_to_122 l (omega arith) (omega arith)) in
     (e, rw e (full_most l)))
     (λ c κs. search rules)
     (λ c.
     let l = c.before.before.before.args.length.0 in
-    let e : c.freeboard-of-mm3.result.0 ≡ full l = omega (arith, full_from_122 l (omega arith)) in
+    let e : c.freeboard_of_mm-2.result.0 ≡ full l = omega (arith, full_from_122 l (omega arith)) in
     (e, rw e (full_most l))))

@@ -18,8 +18,8 @@ if_granted_spec =
     (λ c.
     let a = c.before.before.args in
     let e = lacks_quotient a.b a.forecastle.top a.forecastle.bottom a.length.0 (omega arith) in
-    (sym (pick_true _ _ _ (e ∙ c.if1.true)), omega arith))
+    (sym (pick_true _ _ _ (e ∙ c.if-b-forecastle.true)), omega arith))
     (λ c.
     let a = c.before.before.args in
     let e = lacks_quotient a.b a.forecastle.top a.forecastle.bottom a.length.0 (omega arith) in
-    (sym (pick_false _ _ _ (e ∙ c.if1.false)), omega arith)))
+    (sym (pick_false _ _ _ (e ∙ c.if-b-forecastle.false)), omega arith)))

@@ -14,8 +14,8 @@ of_full_spec =
     tie.close
     (tie.spec
     (λ c κs. search rules)
-    (λ c κs. (omega arith, mul_fits 1070000 1000000 c.full-amount.ensures.1 (omega arith) tt))
+    (λ c κs. (omega arith, mul_fits 1070000 1000000 c.full_amount-f.ensures.1 (omega arith) tt))
     (λ c.
     let a = c.before.before.args in
-    let e : c.mul-div-down.result ≡ of_full a.length.0 a.share = rw c.before.full-amount.ensures.0 at c.mul-div-down.ensures in
+    let e : c.mul_div_down.result ≡ of_full a.length.0 a.share = rw c.before.full_amount-f.ensures.0 at c.mul_div_down.ensures in
     (e, rw e (of_full_most a.length.0 a.share (omega arith)))))

@@ -9,16 +9,16 @@ use Rattle.deduction.proofs.Deduction37.{tenth_begins, share_of_two, share_from_
 use Rattle.deduction.proofs.share.Statement.{statement}
 use Rattle.deduction.proofs.share.Tie as tie
 
-begins : (c : tie.After-tenth-of) → c.tenth-of.result * (100 * c.before.args.length.0) ≤ c.before.args.effective.0
-begins c = rw c.tenth-of.ensures.0 (tenth_begins c.before.args.length.0 c.before.args.effective.0)
+begins : (c : tie.After-tenth_of-j) → c.tenth_of-j.result * (100 * c.before.args.length.0) ≤ c.before.args.effective.0
+begins c = rw c.tenth_of-j.ensures.0 (tenth_begins c.before.args.length.0 c.before.args.effective.0)
 
-first : (c : tie.After-tenth-of) → c.before.args.p * (100 * c.before.args.length.0) ≤ 1000 * 36500000
+first : (c : tie.After-tenth_of-j) → c.before.args.p * (100 * c.before.args.length.0) ≤ 1000 * 36500000
 first c = mul_most c.before.args.p (100 * c.before.args.length.0) 1000 36500000 (omega arith) (omega arith)
 
-second : (c : tie.After-tenth-of) →
-    (c.before.args.q - c.before.args.p) * (c.before.args.effective.0 - c.tenth-of.result * (100 * c.before.args.length.0)) ≤ 1000 * 365000000
+second : (c : tie.After-tenth_of-j) →
+    (c.before.args.q - c.before.args.p) * (c.before.args.effective.0 - c.tenth_of-j.result * (100 * c.before.args.length.0)) ≤ 1000 * 365000000
 second c =
-    mul_most (c.before.args.q - c.before.args.p) (c.before.args.effective.0 - c.tenth-of.result * (100 * c.before.args.length.0)) 1000 365000000
+    mul_most (c.before.args.q - c.before.args.p) (c.before.args.effective.0 - c.tenth_of-j.result * (100 * c.before.args.length.0)) 1000 365000000
     (omega arith) (omega arith)
 
 pub share_spec : {M : Type 1} → statement M
@@ -36,6 +36,6 @@ share_spec =
     (λ c κs. (omega arith, omega (arith, first c, second c)))
     (λ c.
     let a = c.before.before.args in
-    let e : c.mul-div-down.result ≡ share_from a.p a.q a.length.0 a.effective.0 =
-    rw c.before.tenth-of.ensures.0 at c.mul-div-down.ensures ∙ share_of_two a.p a.q a.length.0 a.effective.0 (omega arith) (omega arith) in
+    let e : c.mul_div_down.result ≡ share_from a.p a.q a.length.0 a.effective.0 =
+    rw c.before.tenth_of-j.ensures.0 at c.mul_div_down.ensures ∙ share_of_two a.p a.q a.length.0 a.effective.0 (omega arith) (omega arith) in
     (e, rw e (share_from_most a.p a.q a.length.0 a.effective.0 (omega arith) (omega arith)))))

@@ -8,19 +8,19 @@ use Rattle.ship.proofs.First.{first_fail, first_pass, first_end}
 use Rattle.field_checks.proofs.field_out.Statement.{statement}
 use Rattle.field_checks.proofs.field_out.Tie as tie
 
-abbrev invariant_loop : tie.invariant_loop
-invariant_loop fields least most k₀ k = (k ≤ 13) × (field_out fields ≡ first_from (outside fields) k (13 - k))
+abbrev invariant-loop-k : tie.invariant-loop-k
+invariant-loop-k fields least most k₀ k = (k ≤ 13) × (field_out fields ≡ first_from (outside fields) k (13 - k))
 
-abbrev decreases_loop : tie.decreases_loop
-decreases_loop fields least most k₀ k = 13 - k
+abbrev decreases-loop-k : tie.decreases-loop-k
+decreases-loop-k fields least most k₀ k = 13 - k
 
 pub field_out_spec : {M : Type 1} → statement M
 unfolding field_out
 field_out_spec =
     tie.close
     (tie.spec
-    invariant_loop
-    decreases_loop
+    invariant-loop-k
+    decreases-loop-k
     (λ c. search rules)
     (λ c. search rules)
     (λ c. search rules)
@@ -30,12 +30,12 @@ field_out_spec =
     (λ c. search rules)
     (λ c.
     let l = c.before.before in
-    (sym (l.loop.invariant.1 ∙ first_fail (outside l.before.args.t1) 13 l.loop.k (omega arith) c.if1.true), omega arith))
+    (sym (l.loop-k.invariant.1 ∙ first_fail (outside l.before.args.fields) 13 l.loop-k.k (omega arith) c.if-v-least.true), omega arith))
     (λ c. search rules)
     (λ c. search rules)
     (λ c.
     let l = c.before.before in
-    (omega arith, l.loop.invariant.1 ∙ first_pass (outside l.before.args.t1) 13 l.loop.k (omega arith) c.if1.false))
+    (omega arith, l.loop-k.invariant.1 ∙ first_pass (outside l.before.args.fields) 13 l.loop-k.k (omega arith) c.if-v-least.false))
     (λ c.
     let l = c.before in
-    (sym (l.loop.invariant.1 ∙ first_end (outside l.before.args.t1) 13 l.loop.k (omega arith)), omega arith)))
+    (sym (l.loop-k.invariant.1 ∙ first_end (outside l.before.args.fields) 13 l.loop-k.k (omega arith)), omega arith)))

@@ -37,11 +37,11 @@ of_fields_spec =
     let x = f.before.before.args.x in
     lines
     x
-    f.field_out.result
-    (paper t.line.result)
-    (paper u.line2.result)
-    (paper c.line3.result)
-    (f.field_out.ensures.0 ∙ ap field_out f.before.fields.ensures)
-    t.line.ensures
-    (u.line2.ensures ∙ ap (λ (b : Bool). pick b (refused 22 0) (paper t.line.result)) w.unfit-length.ensures)
-    c.line3.ensures))
+    f.field_out-k.result
+    (paper t.line-v.result)
+    (paper u.line-v-2.result)
+    (paper c.line.result)
+    (f.field_out-k.ensures.0 ∙ ap field_out f.before.fields.ensures)
+    t.line-v.ensures
+    (u.line-v-2.ensures ∙ ap (λ (b : Bool). pick b (refused 22 0) (paper t.line-v.result)) w.unfit_length-unfit.ensures)
+    c.line.ensures))

@@ -17,7 +17,7 @@ pub bad_breadths_spec : {M : Type 1} → statement M
 bad_breadths_spec =
     tie.close
     (tie.spec
-    (λ c. sym (beyond c.before.args.h c.if1.true))
-    (λ c. let h = c.before.args.h in omega (arith, within h.breadth.0 h.beam.0 c.if1.false))
-    (λ c. let h = c.before.args.h in omega (arith, within h.breadth.0 h.beam.0 c.if1.false))
-    (λ c. sym (within_bits c.before.args.h c.if1.false)))
+    (λ c. sym (beyond c.before.args.h c.if-breadth-beam.true))
+    (λ c. let h = c.before.args.h in omega (arith, within h.breadth.0 h.beam.0 c.if-breadth-beam.false))
+    (λ c. let h = c.before.args.h in omega (arith, within h.breadth.0 h.beam.0 c.if-breadth-beam.false))
+    (λ c. sym (within_bits c.before.args.h c.if-breadth-beam.false)))

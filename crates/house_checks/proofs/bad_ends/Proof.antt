@@ -22,11 +22,11 @@ bad_ends_spec =
     let p = g.before in
     let s = p.before.before.before.before in
     rw (
-      c.between5.ensures,
-      d.between4.ensures,
-      e.between3.ensures,
-      f.between2.ensures,
-      g.between.ensures,
-      p.forward-of-ap2.ensures,
-      p.before.forward-of-ap.ensures,
+      c.between-out_forward.ensures,
+      d.between-out_aft.ensures,
+      e.between-abaft_of_fp.ensures,
+      f.between-forward_of_ap.ensures,
+      g.between-length.ensures,
+      p.forward_of_ap-fp.ensures,
+      p.before.forward_of_ap-ap.ensures,
     ) (ends_by_lengths s.args.l.0 s.args.h)))

@@ -15,4 +15,4 @@ bad_quarterdeck_spec =
     let b = c.before.before in
     let p = b.before.before in
     let s = p.before.before.before.before in
-    rw (b.between2.ensures, b.before.between.ensures, p.forward-of-ap2.ensures, p.before.forward-of-ap.ensures) (quarterdeck_by_lengths s.args.l.0 s.args.h)))
+    rw (b.between-short_of_fp.ensures, b.before.between-begins.ensures, p.forward_of_ap-fp.ensures, p.before.forward_of_ap-ap.ensures) (quarterdeck_by_lengths s.args.l.0 s.args.h)))

@@ -11,4 +11,4 @@ breaks_any_spec =
     (λ c κs. search rules)
     (λ c κs. search rules)
     (λ c κs. search rules)
-    (λ c. rw (c.house-breaks4.ensures, c.before.house-breaks3.ensures, c.before.before.house-breaks2.ensures, c.before.before.before.house-breaks.ensures) refl))
+    (λ c. rw (c.house_breaks-order.ensures, c.before.house_breaks-deck.ensures, c.before.before.house_breaks-sides.ensures, c.before.before.before.house_breaks-ends.ensures) refl))

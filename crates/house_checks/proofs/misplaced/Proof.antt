@@ -11,9 +11,9 @@ misplaced_spec =
     tie.close
     (tie.spec
     (λ c κs. search rules)
-    (λ c. rw (sym c.before.is-abaft.ensures ∙ c.if1.true) refl)
+    (λ c. rw (sym c.before.is_abaft.ensures ∙ c.if-is_abaft.true) refl)
     (λ c κs. search rules)
     (λ c κs. search rules)
     (λ c.
     let e = c.before.before.before.before in
-    rw (sym e.before.is-abaft.ensures ∙ e.if1.false, c.between.ensures, c.before.aftermost.ensures) refl))
+    rw (sym e.before.is_abaft.ensures ∙ e.if-is_abaft.false, c.between.ensures, c.before.aftermost-end.ensures) refl))

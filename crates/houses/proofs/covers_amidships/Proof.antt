@@ -23,4 +23,4 @@ covers_amidships_spec =
     let a = b.before in
     let t = a.before in
     let p = t.before in
-    rw (b.in-tenths3.ensures, a.in-tenths2.ensures, t.in-tenths.ensures, p.forward-of-ap.ensures, p.before.tenth-in-tenths.ensures) refl))
+    rw (b.in_tenths-fore.ensures, a.in_tenths-aft.ensures, t.in_tenths-ap.ensures, p.forward_of_ap.ensures, p.before.tenth_in_tenths-tenth.ensures) refl))

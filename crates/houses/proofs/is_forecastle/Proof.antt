@@ -13,4 +13,4 @@ is_forecastle_spec =
     (λ c κs. search rules)
     (λ c.
     let b = c.before in
-    rw (b.is-at-or-abaft.ensures, b.before.forward-of-ap.ensures) refl))
+    rw (b.is_at_or_abaft.ensures, b.before.forward_of_ap-fp.ensures) refl))

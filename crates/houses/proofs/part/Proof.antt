@@ -25,6 +25,6 @@ part_spec =
     let p = q.before in
     let a = p.before.args in
     let e : c.between.result.0 ≡ part_of a.l.0 a.h =
-    rw (c.between.ensures, o.aftermost.ensures, f.foremost.ensures, q.forward-of-ap2.ensures, p.forward-of-ap.ensures, t.if1.true) refl in
+    rw (c.between.ensures, o.aftermost-fore.ensures, f.foremost-aft.ensures, q.forward_of_ap-fp.ensures, p.forward_of_ap-ap.ensures, t.if-h.true) refl in
     (e, rw e (part_most a.l.0 a.h)))
-    (λ c. (rw c.if1.false refl, omega arith)))
+    (λ c. (rw c.if-h.false refl, omega arith)))

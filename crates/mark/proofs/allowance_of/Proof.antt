@@ -13,7 +13,7 @@ unfolding pick allowance
 allowance_of_spec =
     tie.close
     (tie.spec
-    (λ c. (simp (eq-eqb _ _ c.if1.true), omega arith))
+    (λ c. (simp (eq-eqb _ _ c.if-immersion-eq0.true), omega arith))
     (λ c. search rules)
     (λ c. search rules)
-    (λ c. (simp (ne_eqb _ _ c.if1.false), omega (arith, div-le_self (25 * c.before.args.displacement) c.before.args.immersion))))
+    (λ c. (simp (ne_eqb _ _ c.if-immersion-eq0.false), omega (arith, div-le_self (25 * c.before.args.displacement) c.before.args.immersion))))

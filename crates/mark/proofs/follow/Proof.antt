@@ -13,16 +13,16 @@ use Rattle.mark.proofs.follow.Statement.{statement}
 use Rattle.mark.proofs.follow.Tie as tie
 
 -- what the calls gave is the definition's
-fresh : (c : tie.After-allowance-of)
+fresh : (c : tie.After-allowance_of-fresh)
     → let a = c.before.before.before.args in
-    c.allowance-of.result ≡ fresh_at a.p a.s
-fresh c = rw c.before.draught.ensures at c.allowance-of.ensures.0
+    c.allowance_of-fresh.result ≡ fresh_at a.p a.s
+fresh c = rw c.before.draught-d.ensures at c.allowance_of-fresh.ensures.0
 
-told : (c : tie.After-is-at-keel) → let a = c.before.before.before.before.args in leb a.p.depth.0 a.s ≡ c.is-at-keel.result
-told c = sym c.is-at-keel.ensures
+told : (c : tie.After-is_at_keel-at_keel) → let a = c.before.before.before.before.args in leb a.p.depth.0 a.s ≡ c.is_at_keel-at_keel.result
+told c = sym c.is_at_keel-at_keel.ensures
 
 -- there is a draught where 12 does not apply
-afloat : (c : tie.After-is-at-keel) → c.is-at-keel.result ≡ false
+afloat : (c : tie.After-is_at_keel-at_keel) → c.is_at_keel-at_keel.result ≡ false
     → let a = c.before.before.before.before.args in
     a.s < a.p.depth.0
 afloat c e = let a = c.before.before.before.before.args in leb-false a.p.depth.0 a.s (told c ∙ e)
@@ -35,27 +35,27 @@ follow_spec =
     (λ c κs. search rules)
     (λ c κs. search rules)
     (λ c κs. search rules)
-    (λ c. simp (told c.before ∙ c.if1.true))
+    (λ c. simp (told c.before ∙ c.if-at_keel.true))
     (λ c.
     let k = c.before.before in
     let f = k.before in
     let a = f.before.before.before.args in
     simp (
-      lt-leb a.p.depth.0 a.s (afloat k c.before.if1.false),
-      lt-ltb (draught_at a.p a.s) (fresh_at a.p a.s) (rw (← fresh f, ← f.before.draught.ensures) (omega arith)),
+      lt-leb a.p.depth.0 a.s (afloat k c.before.if-at_keel.false),
+      lt-ltb (draught_at a.p a.s) (fresh_at a.p a.s) (rw (← fresh f, ← f.before.draught-d.ensures) (omega arith)),
     ))
     (λ c κs.
     let k = c.before.before in
     let f = k.before in
     let p = f.before.before.before.requires in
-    (p.0, p.1, afloat k c.before.if1.false, f.before.draught.ensures, fresh f, f.allowance-of.ensures.1))
+    (p.0, p.1, afloat k c.before.if-at_keel.false, f.before.draught-d.ensures, fresh f, f.allowance_of-fresh.ensures.1))
     (λ c.
     let i = c.before in
     let k = i.before.before in
     let f = k.before in
     let a = f.before.before.before.args in
     simp (
-      lt-leb a.p.depth.0 a.s (afloat k i.before.if1.false),
-      le-ltb (draught_at a.p a.s) (fresh_at a.p a.s) (rw (← fresh f, ← f.before.draught.ensures) (omega arith)),
-      c.six-marks.ensures,
+      lt-leb a.p.depth.0 a.s (afloat k i.before.if-at_keel.false),
+      le-ltb (draught_at a.p a.s) (fresh_at a.p a.s) (rw (← fresh f, ← f.before.draught-d.ensures) (omega arith)),
+      c.six_marks.ensures,
     )))

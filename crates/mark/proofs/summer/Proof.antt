@@ -17,8 +17,8 @@ summer_spec =
     (λ c.
     let d = c.before in
     let g = d.before in
-    let h : d.mm-up.result ≤ 2 ^ 50 = rw d.mm-up.ensures (ceil_most g.greater.result.0 1000 (2 ^ 50) (omega arith) (omega arith)) in
+    let h : d.mm_up.result ≤ 2 ^ 50 = rw d.mm_up.ensures (ceil_most g.greater-freeboard.result.0 1000 (2 ^ 50) (omega arith) (omega arith)) in
     let a = g.before.before.args in (
-      rw (c.greater2.ensures, d.mm-up.ensures, g.greater.ensures, g.before.difference.ensures) (mark_quotient a.floor a.added.0 a.taken.0 a.bow.0),
+      rw (c.greater.ensures, d.mm_up.ensures, g.greater-freeboard.ensures, g.before.difference-corrected.ensures) (mark_quotient a.floor a.added.0 a.taken.0 a.bow.0),
       omega arith,
     )))

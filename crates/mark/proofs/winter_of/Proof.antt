@@ -6,8 +6,8 @@ use Rattle.mark.specs.Others.{winter}
 use Rattle.mark.proofs.winter_of.Statement.{statement}
 use Rattle.mark.proofs.winter_of.Tie as tie
 
-most : (c : tie.After-div-up) → c.div-up.result ≤ 1250
-most c = rw c.div-up.ensures (ceil_most c.before.args.d 48 1250 (omega arith) (omega arith))
+most : (c : tie.After-div_up) → c.div_up.result ≤ 1250
+most c = rw c.div_up.ensures (ceil_most c.before.args.d 48 1250 (omega arith) (omega arith))
 
 pub winter_of_spec : {M : Type 1} → statement M
 unfolding winter
@@ -16,4 +16,4 @@ winter_of_spec =
     (tie.spec
     (λ c κs. search rules)
     (λ c. omega (arith, most c))
-    (λ c. (rw c.div-up.ensures, omega (arith, most c))))
+    (λ c. (rw c.div_up.ensures, omega (arith, most c))))

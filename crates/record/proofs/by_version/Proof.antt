@@ -8,5 +8,5 @@ pub by_version_spec : {M : Type 1} → statement M
 by_version_spec =
     tie.close
     (tie.spec
-    (λ c. sym (pick_true _ _ _ (eq-eqb _ 1 c.if1.true)))
-    (λ c. sym (pick_false _ _ _ (ne_eqb _ 1 c.if1.false))))
+    (λ c. sym (pick_true _ _ _ (eq-eqb _ 1 c.if-version-eq-FIRST_VERSION.true)))
+    (λ c. sym (pick_false _ _ _ (ne_eqb _ 1 c.if-version-eq-FIRST_VERSION.false))))

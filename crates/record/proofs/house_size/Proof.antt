@@ -13,5 +13,5 @@ house_size_spec =
     tie.close
     (tie.spec
     (λ c. search rules)
-    (λ c. (sym (pick_true _ _ _ (le-leb _ 2 c.if1.true)), omega arith, omega arith))
-    (λ c. (sym (pick_false _ _ _ (lt-leb _ 2 c.if1.false)), omega arith, omega arith)))
+    (λ c. (sym (pick_true _ _ _ (le-leb _ 2 c.if-version-le-SECOND_VERSION.true)), omega arith, omega arith))
+    (λ c. (sym (pick_false _ _ _ (lt-leb _ 2 c.if-version-le-SECOND_VERSION.false)), omega arith, omega arith)))

@@ -5,4 +5,4 @@ use Rattle.record.proofs.last_type_in.Tie as tie
 
 pub last_type_in_spec : {M : Type 1} → statement M
 unfolding last_type_in
-last_type_in_spec = tie.close (tie.spec (λ c κs. search rules) (λ c. c.by-version.ensures))
+last_type_in_spec = tie.close (tie.spec (λ c κs. search rules) (λ c. c.by_version.ensures))

@@ -11,8 +11,8 @@ record_length_spec =
     tie.close
     (tie.spec
     (λ c κs. search rules)
-    (λ c. omega (arith, mul_most c.house-size.result c.before.args.n 12 8 c.house-size.ensures.2 (omega arith)))
-    (λ c. omega (arith, mul_most c.house-size.result c.before.args.n 12 8 c.house-size.ensures.2 (omega arith)))
+    (λ c. omega (arith, mul_most c.house_size.result c.before.args.n 12 8 c.house_size.ensures.2 (omega arith)))
+    (λ c. omega (arith, mul_most c.house_size.result c.before.args.n 12 8 c.house_size.ensures.2 (omega arith)))
     (λ c.
     let n = c.before.args.n in
-    (ap (λ (m : ℕ). 27 + m * n) c.house-size.ensures.0, omega (arith, mul_most c.house-size.result n 12 8 c.house-size.ensures.2 (omega arith)))))
+    (ap (λ (m : ℕ). 27 + m * n) c.house_size.ensures.0, omega (arith, mul_most c.house_size.result n 12 8 c.house_size.ensures.2 (omega arith)))))

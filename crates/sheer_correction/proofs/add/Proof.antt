@@ -20,8 +20,8 @@ add_spec =
     (λ c. search rules)
     (λ c κs. (omega arith, room 9000000 1095000 1460000 (omega arith) (omega arith) (omega arith) tt))
     (λ c. let a = c.before.before.before.args in (
-      c.mul-div-up.ensures ∙ addition_quotient a.deficiency.0 a.l.0 a.s.0 (omega arith),
-      rw c.mul-div-up.ensures
+      c.mul_div_up.ensures ∙ addition_quotient a.deficiency.0 a.l.0 a.s.0 (omega arith),
+      rw c.mul_div_up.ensures
           (ceil_most (a.deficiency.0 * (3 * a.l.0 - 2 * a.s.0)) (4 * a.l.0) 9000000 (omega arith)
           (omega (arith, mul_most a.deficiency.0 (3 * a.l.0 - 2 * a.s.0) 9000000 (4 * a.l.0) (omega arith) (omega arith)))),
     )))

@@ -26,4 +26,4 @@ deduct_spec =
     (λ c κs. search rules)
     (λ c. let m = c.before.before in
     let a = m.before.before.before.args in
-    (rw (c.lesser.ensures, c.before.mul-div-down.ensures) (deduction_quotient a.excess.0 a.l.0 a.s.0 a.reach (omega arith)), omega arith)))
+    (rw (c.lesser.ensures, c.before.mul_div_down-full.ensures) (deduction_quotient a.excess.0 a.l.0 a.s.0 a.reach (omega arith)), omega arith)))

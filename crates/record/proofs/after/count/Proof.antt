@@ -10,4 +10,4 @@ count_spec =
     (λ c κs. search rules)
     (λ c κs. search rules)
     (λ c. search rules)
-    (λ c. omega (arith, c.before.timber.ensures, c.timber2.ensures)))
+    (λ c. omega (arith, c.before.timber.ensures, c.timber-2.ensures)))

@@ -7,4 +7,4 @@ use Rattle.record.proofs.width.kind.Tie as tie
 
 pub kind_spec : {M : Type 1} → statement M
 unfolding kind_bits
-kind_spec = tie.close (tie.spec (λ c κs. search rules) (λ c. (c.by-version.ensures, omega (arith, c.by-version.ensures, (eight_bits c.before.args.version).1))))
+kind_spec = tie.close (tie.spec (λ c κs. search rules) (λ c. (c.by_version.ensures, omega (arith, c.by_version.ensures, (eight_bits c.before.args.version).1))))

@@ -11,5 +11,5 @@ unfolding timber_bits
 timber_spec =
     tie.close
     (tie.spec
-    (λ c. (sym (pick_true _ _ _ (le-leb _ 3 c.if1.true)), omega arith))
-    (λ c. (sym (pick_false _ _ _ (lt-leb _ 3 c.if1.false)), omega arith)))
+    (λ c. (sym (pick_true _ _ _ (le-leb _ 3 c.if-version-le-THIRD_VERSION.true)), omega arith))
+    (λ c. (sym (pick_false _ _ _ (lt-leb _ 3 c.if-version-le-THIRD_VERSION.false)), omega arith)))

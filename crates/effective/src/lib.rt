@@ -61,7 +61,7 @@ fn raised_height(l: u64) -> Standard
 
 // 33: the standard height of a house.
 pub fn standard_height(l: Span, quarterdeck: bool) -> Standard
-    ensures frac { frac result.size result.per ≈f Height.standardHeight l.0 quarterdeck }
+    ensures frac { frac result.size result.per ≈f Height.standard_height l.0 quarterdeck }
     ensures value { result ≡ standard_of (low_height l.0 quarterdeck) }
     ensures sized { Sized result }
 {
@@ -88,7 +88,7 @@ fn limited_length(l: Span, h: House) -> Effective
 // The ratio of a house's height to its standard height, 1 where it is no lower.
 pub fn height_ratio(l: Span, h: House) -> Ratio
     requires { h.height.0 ≤ 8191 }
-    ensures frac { frac result.top result.bottom ≈f Height.heightRatio l.0 h }
+    ensures frac { frac result.top result.bottom ≈f Height.height_ratio l.0 h }
     ensures value { result ≡ ratio_of l.0 h }
     ensures fair_ratio { FairRatio result }
 {

@@ -28,14 +28,14 @@ unfoldable pub timber_winter : Bool → ℕ → ℤ → ℕ → ℤ
 timber_winter reduced W LS d = let n = LS +ℤ pos (ceil_div d 36) in pick reduced (pick (le_z n (pos W)) n (pos W)) n
 
 -- 45(3): LWNA is WNA, of a reduced ship too: 45(7) would set it level with W, which WNA is at the lengths that a reduced ship may have
--- 45(4): Lt: LS minus d/48 (down)
+-- 45(4): LT: LS minus d/48 (down)
 -- 45(5): LF: as 40(8), LS minus d/48 (down): 40(7) asks for the displacement at the timber waterline, and none is certified there
--- 6(4)(e), (f): LTF: Lt minus the same allowance
+-- 6(4)(e), (f): LTF: LT minus the same allowance
 unfoldable pub timber_from : Bool → ℕ → ℕ → ℤ → ℕ → TimberMarks
 timber_from reduced W WNA LS d =
     let part = pos (d / 48) in
-    let Lt = LS -ℤ part in
-    record { ls = LS; lt = Lt; lw = timber_winter reduced W LS d; lwna = WNA; lf = LS -ℤ part; ltf = Lt -ℤ part }
+    let LT = LS -ℤ part in
+    record { ls = LS; lt = LT; lw = timber_winter reduced W LS d; lwna = WNA; lf = LS -ℤ part; ltf = LT -ℤ part }
 
 -- 02: where LS is at or above D there is no timber draught, and the timber marks are all zero
 unfoldable pub timber_given : ℕ → ℤ → Bool

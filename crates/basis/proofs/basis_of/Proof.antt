@@ -17,8 +17,8 @@ basis_of_spec =
     (λ c.
     let o = c.before in
     let l = o.before.args.l.0 in
-    ((o.Line-of.ensures.0, sym (ap (λ (k : ℕ). (basis_of k l).floor) c.if-kind-eq-PORTABLE_COVERS.true)), (o.Line-of.ensures.1, omega arith)))
+    ((o.line_of-line.ensures.0, sym (ap (λ (k : ℕ). (basis_of k l).floor) c.if-kind-eq-PORTABLE_COVERS.true)), (o.line_of-line.ensures.1, omega arith)))
     (λ c.
     let o = c.before in
     let a = o.before.args in
-    ((o.Line-of.ensures.0, floor_of a.kind a.l.0 (omega arith) c.if-kind-eq-PORTABLE_COVERS.false), (o.Line-of.ensures.1, omega arith))))
+    ((o.line_of-line.ensures.0, floor_of a.kind a.l.0 (omega arith) c.if-kind-eq-PORTABLE_COVERS.false), (o.line_of-line.ensures.1, omega arith))))

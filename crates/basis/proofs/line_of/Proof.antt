@@ -22,7 +22,7 @@ line_of_spec =
     (λ c.
     let t = c.before in
     let l = t.before.before.args.l.0 in
-    (c.line-b-60.ensures.0 ∙ sym (ap (λ (k : ℕ). (basis_of k l).line) t.if-kind-eq-B_60.true), omega (arith, c.line-b-60.ensures.1)))
+    (c.line_b_60.ensures.0 ∙ sym (ap (λ (k : ℕ). (basis_of k l).line) t.if-kind-eq-B_60.true), omega (arith, c.line_b_60.ensures.1)))
     (λ c κs. search rules)
     (λ c κs.
     let t = c.before in
@@ -33,8 +33,8 @@ line_of_spec =
     let t = v.before in
     let b = t.before in
     let l = b.before.before.before.args.l.0 in (
-      c.sum.ensures ∙ (λ i. b.tabular_b-b.ensures.0 i + v.covers-add.ensures.0 i) ∙ sym (ap (λ (k : ℕ). (basis_of k l).line) t.if-kind-eq-PORTABLE_COVERS.true),
-      omega (arith, c.sum.ensures, b.tabular_b-b.ensures.1, v.covers-add.ensures.1),
+      c.sum.ensures ∙ (λ i. b.tabular_b-b.ensures.0 i + v.covers_add.ensures.0 i) ∙ sym (ap (λ (k : ℕ). (basis_of k l).line) t.if-kind-eq-PORTABLE_COVERS.true),
+      omega (arith, c.sum.ensures, b.tabular_b-b.ensures.1, v.covers_add.ensures.1),
     ))
     (λ c.
     let b = c.before in

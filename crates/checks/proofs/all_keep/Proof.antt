@@ -17,13 +17,13 @@ use Rattle.ship.proofs.Lines.{or_false}
 use Rattle.checks.proofs.all_keep.Statement.{statement}
 use Rattle.checks.proofs.all_keep.Tie as tie
 
-abbrev invariant_loop : tie.invariant_loop
-invariant_loop l n houses reached₀ k₀ reached k =
+abbrev invariant-loop-k : tie.invariant-loop-k
+invariant-loop-k l n houses reached₀ k₀ reached k =
     let hs = take n houses in
     (k ≤ n) × (reached.0 ≡ fore_before hs k) × ((r : Rule) → first_breach r l.0 hs ≡ first_from (breach_at r l.0 hs) k (n - k))
 
-abbrev decreases_loop : tie.decreases_loop
-decreases_loop l n houses reached₀ k₀ reached k = n - k
+abbrev decreases-loop-k : tie.decreases-loop-k
+decreases-loop-k l n houses reached₀ k₀ reached k = n - k
 
 -- a house that breaks none of the four keeps each
 each : (l before : ℕ) (h : House) → (breaks EndsAndHeight l before h || breaks SetInSides l before h || breaks RaisedQuarterdeck l before h || breaks Follows l before h) ≡ false → (r : Rule) → breaks r l before h ≡ false
@@ -31,29 +31,29 @@ each l before h e r =
     let p = or_false (breaks EndsAndHeight l before h || breaks SetInSides l before h || breaks RaisedQuarterdeck l before h) (breaks Follows l before h) e in
     let q = or_false (breaks EndsAndHeight l before h || breaks SetInSides l before h) (breaks RaisedQuarterdeck l before h) p.0 in
     let s = or_false (breaks EndsAndHeight l before h) (breaks SetInSides l before h) q.0 in
-    elim r [ EndsAndHeight ↦ s.0 | SetInSides ↦ s.1 | RaisedQuarterdeck ↦ q.1 | Follows ↦ p.1 ]
+    elim r as (λ k. breaks k l before h ≡ false) [ EndsAndHeight ↦ s.0 | SetInSides ↦ s.1 | RaisedQuarterdeck ↦ q.1 | Follows ↦ p.1 ]
 
-keeps : (c : tie.Else1 invariant_loop decreases_loop) (r : Rule)
+keeps : (c : tie.Else-breaks_any invariant-loop-k decreases-loop-k) (r : Rule)
     → let l = c.before.before.before.before in
     let a = l.before.args in
-    breach_at r a.l.0 (take a.n a.t2) l.loop.k ≡ false
+    breach_at r a.l.0 (take a.n a.houses) l.loop-k.k ≡ false
 unfolding breach_at
 keeps c r =
     let l = c.before.before.before.before in
     let a = l.before.args in
-    let h : l.loop.k < a.n = omega arith in
-    rw (← l.loop.invariant.1, get_or-take a.n a.t2 l.loop.k _ h) (each a.l.0 l.loop.reached.0 _ (sym c.before.breaks-any.ensures ∙ c.if1.false) r)
+    let h : l.loop-k.k < a.n = omega arith in
+    rw (← l.loop-k.invariant.1, get_or-take a.n a.houses l.loop-k.k _ h) (each a.l.0 l.loop-k.reached.0 _ (sym c.before.breaks_any.ensures ∙ c.if-breaks_any.false) r)
 
 pub all_keep_spec : {M : Type 1} → statement M
 unfolding first_breach
 all_keep_spec =
     tie.close
     (tie.spec
-    invariant_loop
-    decreases_loop
+    invariant-loop-k
+    decreases-loop-k
     (λ c.
-    let m : length c.args.t2 ≡ 8 = search rules in
-    (search rules, refl, λ r. rw (length-take-le c.args.n c.args.t2 (omega arith), sub-zero c.args.n) refl))
+    let m : length c.args.houses ≡ 8 = search rules in
+    (search rules, refl, λ r. rw (length-take-le c.args.n c.args.houses (omega arith), sub-zero c.args.n) refl))
     (λ c. search rules)
     (λ c. search rules)
     (λ c κs. search rules)
@@ -63,13 +63,13 @@ all_keep_spec =
     (λ c.
     let l = c.before.before.before.before.before in
     let a = l.before.args in
-    let hs = take a.n a.t2 in
-    let h : l.loop.k < a.n = omega arith in (
+    let hs = take a.n a.houses in
+    let h : l.loop-k.k < a.n = omega arith in (
       omega arith,
-      rw (add-one l.loop.k, get_or-take a.n a.t2 l.loop.k _ h) refl,
-      λ r. l.loop.invariant.2 r ∙ first_pass (breach_at r a.l.0 hs) a.n l.loop.k h (keeps c.before r),
+      rw (add-one l.loop-k.k, get_or-take a.n a.houses l.loop-k.k _ h) refl,
+      λ r. l.loop-k.invariant.2 r ∙ first_pass (breach_at r a.l.0 hs) a.n l.loop-k.k h (keeps c.before r),
     ))
     (λ c. λ e r.
     let l = c.before in
     let a = l.before.args in
-    l.loop.invariant.2 r ∙ first_end (breach_at r a.l.0 (take a.n a.t2)) a.n l.loop.k (omega arith) ∙ omega arith))
+    l.loop-k.invariant.2 r ∙ first_end (breach_at r a.l.0 (take a.n a.houses)) a.n l.loop-k.k (omega arith) ∙ omega arith))

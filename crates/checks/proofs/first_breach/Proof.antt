@@ -12,57 +12,57 @@ use Rattle.ship.proofs.First.{first_fail, first_pass, first_end}
 use Rattle.checks.proofs.first_breach.Statement.{statement}
 use Rattle.checks.proofs.first_breach.Tie as tie
 
-abbrev invariant_loop : tie.invariant_loop
-invariant_loop rule l n houses before₀ k₀ before k =
+abbrev invariant-loop-k : tie.invariant-loop-k
+invariant-loop-k rule l n houses before₀ k₀ before k =
     let hs = take n houses in
     (k ≤ n) × (before.0 ≡ fore_before hs k) × (first_breach rule l.0 hs ≡ first_from (breach_at rule l.0 hs) k (n - k))
 
-abbrev decreases_loop : tie.decreases_loop
-decreases_loop rule l n houses before₀ k₀ before k = n - k
+abbrev decreases-loop-k : tie.decreases-loop-k
+decreases-loop-k rule l n houses before₀ k₀ before k = n - k
 
 -- what the turn's call told of the house at hand
-told : (c : tie.After-house-breaks invariant_loop decreases_loop)
+told : (c : tie.After-house_breaks invariant-loop-k decreases-loop-k)
     → let l = c.before.before.before in
     let a = l.before.args in
-    c.house-breaks.result ≡ breach_at a.rule a.l.0 (take a.n a.t3) l.loop.k
+    c.house_breaks.result ≡ breach_at a.rule a.l.0 (take a.n a.houses) l.loop-k.k
 unfolding breach_at
 told c =
     let l = c.before.before.before in
     let a = l.before.args in
-    let h : l.loop.k < a.n = omega arith in
-    c.house-breaks.ensures ∙ rw (l.loop.invariant.1, get_or-take a.n a.t3 l.loop.k _ h) refl
+    let h : l.loop-k.k < a.n = omega arith in
+    c.house_breaks.ensures ∙ rw (l.loop-k.invariant.1, get_or-take a.n a.houses l.loop-k.k _ h) refl
 
 pub first_breach_spec : {M : Type 1} → statement M
 unfolding first_breach
 first_breach_spec =
     tie.close
     (tie.spec
-    invariant_loop
-    decreases_loop
+    invariant-loop-k
+    decreases-loop-k
     (λ c.
-    let m : length c.args.t3 ≡ 8 = search rules in
-    (search rules, refl, rw (length-take-le c.args.n c.args.t3 (omega arith), sub-zero c.args.n) refl))
+    let m : length c.args.houses ≡ 8 = search rules in
+    (search rules, refl, rw (length-take-le c.args.n c.args.houses (omega arith), sub-zero c.args.n) refl))
     (λ c. search rules)
     (λ c. search rules)
     (λ c κs. search rules)
     (λ c.
     let l = c.before.before.before.before in
     let a = l.before.args in
-    let e = sym (told c.before) ∙ c.if1.true in
-    (sym (l.loop.invariant.2 ∙ first_fail (breach_at a.rule a.l.0 (take a.n a.t3)) a.n l.loop.k (omega arith) e), omega arith))
+    let e = sym (told c.before) ∙ c.if-house_breaks.true in
+    (sym (l.loop-k.invariant.2 ∙ first_fail (breach_at a.rule a.l.0 (take a.n a.houses)) a.n l.loop-k.k (omega arith) e), omega arith))
     (λ c. search rules)
     (λ c. search rules)
     (λ c.
     let l = c.before.before.before.before.before in
     let a = l.before.args in
-    let hs = take a.n a.t3 in
-    let h : l.loop.k < a.n = omega arith in
-    let e = sym (told c.before.before) ∙ c.before.if1.false in (
+    let hs = take a.n a.houses in
+    let h : l.loop-k.k < a.n = omega arith in
+    let e = sym (told c.before.before) ∙ c.before.if-house_breaks.false in (
       omega arith,
-      rw (add-one l.loop.k, get_or-take a.n a.t3 l.loop.k _ h) refl,
-      l.loop.invariant.2 ∙ first_pass (breach_at a.rule a.l.0 hs) a.n l.loop.k h e,
+      rw (add-one l.loop-k.k, get_or-take a.n a.houses l.loop-k.k _ h) refl,
+      l.loop-k.invariant.2 ∙ first_pass (breach_at a.rule a.l.0 hs) a.n l.loop-k.k h e,
     ))
     (λ c.
     let l = c.before in
     let a = l.before.args in
-    (sym (l.loop.invariant.2 ∙ first_end (breach_at a.rule a.l.0 (take a.n a.t3)) a.n l.loop.k (omega arith)), omega arith)))
+    (sym (l.loop-k.invariant.2 ∙ first_end (breach_at a.rule a.l.0 (take a.n a.houses)) a.n l.loop-k.k (omega arith)), omega arith)))

@@ -18,15 +18,15 @@ use Rattle.checks.proofs.in_order.Statement.{statement}
 use Rattle.checks.proofs.in_order.Tie as tie
 
 -- the list has n houses
-long : (s : tie.Start) → length (take s.args.n s.args.t2) ≡ s.args.n
-long s = let m : length s.args.t2 ≡ 8 = search rules in length-take-le s.args.n s.args.t2 (omega arith)
+long : (s : tie.Start) → length (take s.args.n s.args.houses) ≡ s.args.n
+long s = let m : length s.args.houses ≡ 8 = search rules in length-take-le s.args.n s.args.houses (omega arith)
 
-one_before : (c : tie.Then1) → 1 ≤ c.before.first-breach.result
+one_before : (c : tie.Then-k-n) → 1 ≤ c.before.first_breach-k.result
 one_before c =
     let b = c.before in
     let a = b.before.args in
-    let e = b.first-breach.ensures.0 in
-    let r = first_bad a.l.0 (take a.n a.t2) (omega (arith, e, long b.before)) in
+    let e = b.first_breach-k.ensures.0 in
+    let r = first_bad a.l.0 (take a.n a.houses) (omega (arith, e, long b.before)) in
     omega (arith, e, r.0)
 
 -- what the lines say if the first bad house stands at place k
@@ -49,16 +49,16 @@ in_order_spec =
     let b = c.before.before.before.before in
     let s = b.before in
     let a = s.args in
-    let k = b.first-breach.result in
-    let hs = take a.n a.t2 in
+    let k = b.first_breach-k.result in
+    let hs = take a.n a.houses in
     let h : k < a.n = omega arith in
     c.misplaced.ensures
-    ∙ sym (ap (verdict_at hs) (sym b.first-breach.ensures.0)
-    ∙ rw (lt-ltb k (length hs) (omega (arith, long s)), get_or-take a.n a.t2 k _ h, get_or-take a.n a.t2 (k - 1) _ (omega arith)) refl))
+    ∙ sym (ap (verdict_at hs) (sym b.first_breach-k.ensures.0)
+    ∙ rw (lt-ltb k (length hs) (omega (arith, long s)), get_or-take a.n a.houses k _ h, get_or-take a.n a.houses (k - 1) _ (omega arith)) refl))
     (λ c.
     let b = c.before in
     let s = b.before in
     let a = s.args in
-    let k = b.first-breach.result in
-    let hs = take a.n a.t2 in
-    sym (ap (verdict_at hs) (sym b.first-breach.ensures.0) ∙ rw (le-ltb k (length hs) (omega (arith, long s))) refl)))
+    let k = b.first_breach-k.result in
+    let hs = take a.n a.houses in
+    sym (ap (verdict_at hs) (sym b.first_breach-k.ensures.0) ∙ rw (le-ltb k (length hs) (omega (arith, long s))) refl)))

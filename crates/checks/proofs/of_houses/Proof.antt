@@ -42,7 +42,7 @@ of_houses_spec =
     (tie.spec
     (λ c κs. search rules)
     (λ c.
-    let k = c.before.all_keep.ensures c.if1.true in
+    let k = c.before.all_keep.ensures c.if-all_keep.true in
     let a = c.before.before.args in
     rw (k EndsAndHeight, k SetInSides, k RaisedQuarterdeck, k Follows, long c.before.before, le-ltb a.n a.n (omega arith)) refl)
     (λ c κs. search rules)
@@ -71,9 +71,9 @@ of_houses_spec =
     let hs = take n s.args.houses in
     let eleven = order_lines l hs in
     behind (house_line 9 EndsAndHeight l hs) (house_line 23 SetInSides l hs ∷ house_line 10 RaisedQuarterdeck l hs ∷ eleven) _ _ _ (omega arith)
-    (searched 9 EndsAndHeight l hs n _ _ (long s) e.first-breach.ensures.0 nine.line.ensures)
+    (searched 9 EndsAndHeight l hs n _ _ (long s) e.first_breach-ends.ensures.0 nine.line-nine.ensures)
     (behind (house_line 23 SetInSides l hs) (house_line 10 RaisedQuarterdeck l hs ∷ eleven) _ _ _ (omega arith)
-    (searched 23 SetInSides l hs n _ _ (long s) w.first-breach2.ensures.0 sided.line2.ensures)
+    (searched 23 SetInSides l hs n _ _ (long s) w.first_breach-sides.ensures.0 sided.line-sided.ensures)
     (behind (house_line 10 RaisedQuarterdeck l hs) eleven _ _ _ (omega arith)
-    (searched 10 RaisedQuarterdeck l hs n _ _ (long s) d.first-breach3.ensures.0 ten.line3.ensures)
-    o.in_order.ensures a.after.ensures) b.after2.ensures) c.after3.ensures))
+    (searched 10 RaisedQuarterdeck l hs n _ _ (long s) d.first_breach-deck.ensures.0 ten.line-ten.ensures)
+    o.in_order-order.ensures a.after.ensures) b.after-2.ensures) c.after-3.ensures))

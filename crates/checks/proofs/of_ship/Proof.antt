@@ -14,10 +14,6 @@ use Rattle.ship.proofs.Accepted.{in_range}
 use Rattle.checks.proofs.of_ship.Statement.{statement}
 use Rattle.checks.proofs.of_ship.Tie as tie
 
--- the verdict on the fields
-told : (c : tie.After-of-fields) (v : Verdict) → c.of_Fields.result ≡ v → first (field_lines c.before.args.x) ≡ paper v
-told c v e = sym c.of_Fields.ensures ∙ ap paper e
-
 -- L is in its range
 length_most : (x : Ship) → first (field_lines x) ≡ accepted → x.length.0 ≤ 365000
 length_most x e =
@@ -30,18 +26,11 @@ of_ship_spec =
     (tie.spec
     (λ c κs. search rules)
     (λ c. search rules)
-    (λ c κs.
-    let t = c.before.before in
-    let f = t.before.before in
-    (length_most f.before.args.x (told f _ t.enum_told.given.1), omega arith))
+    (λ c κs. (length_most c.args.x (sym c.in-Accepted.ensures), omega arith))
     (λ c. search rules)
     (λ c.
-    let t = c.before.before.before in
-    let f = t.before.before in
-    let x = f.before.args.x in
-    c.of-houses.ensures ∙ sym (first_accepted (field_lines x) (house_lines x.length.0 (houses_of x)) (omega arith) (told f _ t.enum_told.given.1)))
+    let x = c.args.x in
+    c.of_houses.ensures ∙ sym (first_accepted (field_lines x) (house_lines x.length.0 (houses_of x)) (omega arith) (sym c.in-Accepted.ensures)))
     (λ c.
-    let v = c.before in
-    let f = v.before.before in
-    let x = f.before.args.x in
-    sym (first_refused (field_lines x) (house_lines x.length.0 (houses_of x)) v.v.given.0.0 (omega arith) (told f _ v.v.given.1))))
+    let x = c.args.x in
+    sym (first_refused (field_lines x) (house_lines x.length.0 (houses_of x)) c.in-Refused.r (omega arith) (sym c.in-Refused.ensures))))

@@ -25,5 +25,5 @@ breadth_ratio_spec =
     tie.close
     (tie.spec
     (λ c κs. search rules)
-    (λ c. let h = c.before.before.args.h in all h (sym (breadths_full h (sym c.before.full-breadth.ensures ∙ c.if1.true))))
-    (λ c. let h = c.before.before.args.h in all h (set_in_lem h (sym c.before.full-breadth.ensures ∙ c.if1.false))))
+    (λ c. let h = c.before.before.args.h in all h (sym (breadths_full h (sym c.before.full_breadth.ensures ∙ c.if-full_breadth.true))))
+    (λ c. let h = c.before.before.args.h in all h (set_in_lem h (sym c.before.full_breadth.ensures ∙ c.if-full_breadth.false))))

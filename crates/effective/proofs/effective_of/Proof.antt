@@ -13,21 +13,21 @@ use Rattle.effective.proofs.effective_of.Statement.{statement}
 use Rattle.effective.proofs.effective_of.Tie as tie
 
 -- the factors, each within its limit
-factors : (b : tie.After-breadth-ratio)
+factors : (b : tie.After-breadth_ratio-breadths)
     → let f = b.before in
     let r = f.before.args.ratio in
-    let c = b.breadth-ratio.result in
-    (f.limited-length.result.0 ≤ greatest_length) × (r.top ≤ greatest_size) × (r.bottom ≤ greatest_size) × (c.top ≤ greatest_breadth) × (c.bottom ≤ greatest_breadth)
+    let c = b.breadth_ratio-breadths.result in
+    (f.limited_length-length.result.0 ≤ greatest_length) × (r.top ≤ greatest_size) × (r.bottom ≤ greatest_size) × (c.top ≤ greatest_breadth) × (c.bottom ≤ greatest_breadth)
 factors b =
     let f = b.before in
     let s = f.before in
     let a = s.args in
     let r = subst FairRatio (sym s.requires.1) (fair_ratio a.l.0 a.h) in
     let w = fair_breadths a.h s.requires.2 in
-    let e = b.breadth-ratio.ensures.1 in
-    let top : b.breadth-ratio.result.top ≡ (breadths_of a.h).top = ap (λ (r : Ratio). r.top) e in
-    let bottom : b.breadth-ratio.result.bottom ≡ (breadths_of a.h).bottom = ap (λ (r : Ratio). r.bottom) e in
-    (omega (arith, f.limited-length.ensures.1, s.requires.0), omega (arith, r.at_most_1, r.bottom_most), r.bottom_most, omega (arith, w, top), omega (arith, w, bottom))
+    let e = b.breadth_ratio-breadths.ensures.1 in
+    let top : b.breadth_ratio-breadths.result.top ≡ (breadths_of a.h).top = ap (λ (r : Ratio). r.top) e in
+    let bottom : b.breadth_ratio-breadths.result.bottom ≡ (breadths_of a.h).bottom = ap (λ (r : Ratio). r.bottom) e in
+    (omega (arith, f.limited_length-length.ensures.1, s.requires.0), omega (arith, r.at_most_1, r.bottom_most), r.bottom_most, omega (arith, w, top), omega (arith, w, bottom))
 
 pub effective_of_spec : {M : Type 1} → statement M
 unfolding top_of bottom_of
@@ -52,6 +52,6 @@ effective_of_spec =
     let a = s.args in
     let l = a.l.0 in
     let n = s.requires.1 in
-    let w = b.breadth-ratio.ensures.1 in
-    let e : _ ≡ unrounded_of l a.h = λ i. record { top = f.limited-length.ensures.0 i * (n i).top * (w i).top; bottom = (n i).bottom * (w i).bottom } in
+    let w = b.breadth_ratio-breadths.ensures.1 in
+    let e : _ ≡ unrounded_of l a.h = λ i. record { top = f.limited_length-length.ensures.0 i * (n i).top * (w i).top; bottom = (n i).bottom * (w i).bottom } in
     (subst (λ (u : Unrounded). frac u.top u.bottom ≈f exact_effective l a.h) (sym e) (unrounded_exact l a.h s.requires.2), (e, subst FairLength (sym e) (fair_unrounded l a.h s.requires.2 s.requires.0)))))

@@ -20,13 +20,13 @@ height_ratio_spec =
     (λ c κs. search rules)
     (λ c.
     let s = c.before.before in
-    omega (arith, mul_most s.before.args.h.height.0 s.standard-height.result.per 8191 250 (omega arith) (omega arith)))
+    omega (arith, mul_most s.before.args.h.height.0 s.standard_height-standard.result.per 8191 250 (omega arith) (omega arith)))
     (λ c κs. search rules)
     (λ c.
     let s = c.before.before.before in
     let a = s.before.args in
     let l = a.l.0 in
-    let k : c.lesser.result ≡ lesser_of l a.h =
-    rw c.lesser.ensures (ap (λ (t : Standard). min (a.h.height.0 * t.per) t.size) s.standard-height.ensures.1.0) in
-    let e : _ ≡ ratio_of l a.h = λ i. record { top = k i; bottom = (s.standard-height.ensures.1.0 i).size } in
+    let k : c.lesser-height.result ≡ lesser_of l a.h =
+    rw c.lesser-height.ensures (ap (λ (t : Standard). min (a.h.height.0 * t.per) t.size) s.standard_height-standard.ensures.1.0) in
+    let e : _ ≡ ratio_of l a.h = λ i. record { top = k i; bottom = (s.standard_height-standard.ensures.1.0 i).size } in
     (subst (λ (r : Ratio). frac r.top r.bottom ≈f height_ratio l a.h) (sym e) (ratio_exact l a.h), (e, subst FairRatio (sym e) (fair_ratio l a.h)))))

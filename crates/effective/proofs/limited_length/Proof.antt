@@ -17,7 +17,7 @@ limited_length_spec =
     (λ c κs. search rules)
     (λ c.
     let u = c.before.before in
-    (rw (c.lesser.ensures, u.effective-of.ensures, u.before.part.ensures.0, c.before.if1.true) refl, omega (arith, c.lesser.ensures)))
+    (rw (c.lesser.ensures, u.effective_of-um.ensures, u.before.part.ensures.0, c.before.if-h.true) refl, omega (arith, c.lesser.ensures)))
     (λ c.
     let u = c.before in
-    (rw (u.effective-of.ensures, u.before.part.ensures.0, c.if1.false) refl, omega (arith, u.effective-of.ensures))))
+    (rw (u.effective_of-um.ensures, u.before.part.ensures.0, c.if-h.false) refl, omega (arith, u.effective_of-um.ensures))))

@@ -11,9 +11,9 @@ unfolding pick low_ordinary
 ordinary_height_spec =
     tie.close
     (tie.spec
-    (λ c. rw (le-leb _ _ c.if1.true) refl)
+    (λ c. rw (le-leb _ _ c.if-l-le75000.true) refl)
     (λ c κs. search rules)
     (λ c.
     let e = c.before in
-    rw (lt-leb _ _ e.before.if1.false, lt-ltb _ _ e.if2.true) c.rising.ensures)
-    (λ c. rw (lt-leb _ _ c.before.if1.false, le-ltb _ _ c.if2.false) refl))
+    rw (lt-leb _ _ e.before.if-l-le75000.false, lt-ltb _ _ e.if-l-lt125000.true) c.rising.ensures)
+    (λ c. rw (lt-leb _ _ c.before.if-l-le75000.false, le-ltb _ _ c.if-l-lt125000.false) refl))

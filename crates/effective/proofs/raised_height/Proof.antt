@@ -11,13 +11,13 @@ unfolding pick low_raised
 raised_height_spec =
     tie.close
     (tie.spec
-    (λ c. rw (le-leb _ _ c.if1.true) refl)
+    (λ c. rw (le-leb _ _ c.if-l-le30000.true) refl)
     (λ c κs. search rules)
     (λ c.
     let e = c.before in
-    rw (lt-leb _ _ e.before.if1.false, le-leb _ _ e.if2.true) c.rising.ensures)
+    rw (lt-leb _ _ e.before.if-l-le30000.false, le-leb _ _ e.if-l-le75000.true) c.rising.ensures)
     (λ c κs. search rules)
     (λ c.
     let e = c.before in
-    rw (lt-leb _ _ e.before.before.if1.false, lt-leb _ _ e.before.if2.false, lt-ltb _ _ e.if3.true) c.rising2.ensures)
-    (λ c. rw (lt-leb _ _ c.before.before.if1.false, lt-leb _ _ c.before.if2.false, le-ltb _ _ c.if3.false) refl))
+    rw (lt-leb _ _ e.before.before.if-l-le30000.false, lt-leb _ _ e.before.if-l-le75000.false, lt-ltb _ _ e.if-l-lt125000.true) c.rising-then-l-lt125000.ensures)
+    (λ c. rw (lt-leb _ _ c.before.before.if-l-le30000.false, lt-leb _ _ c.before.if-l-le75000.false, le-ltb _ _ c.if-l-lt125000.false) refl))

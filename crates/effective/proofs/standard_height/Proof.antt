@@ -25,10 +25,10 @@ standard_height_spec =
     (λ c κs. search rules)
     (λ c.
     let l = c.before.before.args.l.0 in
-    let e = c.raised-height.ensures in
-    rw c.before.if1.true (all l true e))
+    let e = c.raised_height.ensures in
+    rw c.before.if-quarterdeck.true (all l true e))
     (λ c κs. search rules)
     (λ c.
     let l = c.before.before.args.l.0 in
-    let e = c.ordinary-height.ensures in
-    rw c.before.if1.false (all l false e)))
+    let e = c.ordinary_height.ensures in
+    rw c.before.if-quarterdeck.false (all l false e)))

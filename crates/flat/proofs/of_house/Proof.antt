@@ -23,13 +23,13 @@ of_house_spec =
     let q = c.before.before in
     let g = q.before in
     let h = g.before.args.h in
-    let ae : to_z w64 (of_z w64 c.before.mm-of-station.result) ≡ mm_of h.aft.0 =
-    rw c.before.mm-of-station.ensures (to_z-of_z (minus_fits h.aft.0 datum (omega arith) (omega arith))) in
-    let fe : to_z w64 (of_z w64 c.mm-of-station2.result) ≡ mm_of h.fore.0 =
-    rw c.mm-of-station2.ensures (to_z-of_z (minus_fits h.fore.0 datum (omega arith) (omega arith))) in
+    let ae : to_z w64 (of_z w64 c.before.mm_of_station-aft.result) ≡ mm_of h.aft.0 =
+    rw c.before.mm_of_station-aft.ensures (to_z-of_z (minus_fits h.aft.0 datum (omega arith) (omega arith))) in
+    let fe : to_z w64 (of_z w64 c.mm_of_station-fore.result) ≡ mm_of h.fore.0 =
+    rw c.mm_of_station-fore.ensures (to_z-of_z (minus_fits h.fore.0 datum (omega arith) (omega arith))) in
     λ i. record {
-      enclosed = g.bit-of.ensures.0 i;
-      quarterdeck = q.bit-of2.ensures.0 i;
+      enclosed = g.bit_of-enclosed.ensures.0 i;
+      quarterdeck = q.bit_of-quarterdeck.ensures.0 i;
       aft = ae i;
       fore = fe i;
       height = h.height.0;

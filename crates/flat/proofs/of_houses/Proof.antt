@@ -7,30 +7,30 @@ use Rattle.flat.proofs.Filled.{filled, filled_none, filled_more, filled_all}
 use Rattle.flat.proofs.of_houses.Statement.{statement}
 use Rattle.flat.proofs.of_houses.Tie as tie
 
-abbrev invariant_loop : tie.invariant_loop
-invariant_loop hs flat₀ k₀ flat k = (k ≤ 8) × (flat ≡ filled house_of flat_zero_house k hs)
+abbrev invariant-loop-k : tie.invariant-loop-k
+invariant-loop-k hs flat₀ k₀ flat k = (k ≤ 8) × (flat ≡ filled house_of flat_zero_house k hs)
 
-abbrev decreases_loop : tie.decreases_loop
-decreases_loop hs flat₀ k₀ flat k = 8 - k
+abbrev decreases-loop-k : tie.decreases-loop-k
+decreases-loop-k hs flat₀ k₀ flat k = 8 - k
 
 pub of_houses_spec : {M : Type 1} → statement M
 of_houses_spec =
     tie.close
     (tie.spec
-    invariant_loop
-    decreases_loop
-    (λ c. (search rules, filled_none house_of _ c.args.t1 8 (search rules)))
+    invariant-loop-k
+    decreases-loop-k
+    (λ c. (search rules, filled_none house_of _ c.args.hs 8 (search rules)))
     (λ c. search rules)
     (λ c. search rules)
-    (λ c κs. let l = c.before.before in l.before.requires.each l.loop.k)
+    (λ c κs. let l = c.before.before in l.before.requires.each l.loop-k.k)
     (λ c. search rules)
     (λ c. search rules)
     (λ c. search rules)
     (λ c. search rules)
     (λ c.
     let l = c.before.before.before in
-    let hs = l.before.args.t1 in
-    (omega arith, rw (c.of-house.ensures, l.loop.invariant.1) (filled_more house_of _ hs l.loop.k _ (search rules))))
+    let hs = l.before.args.hs in
+    (omega arith, rw (c.of_house-house.ensures, l.loop-k.invariant.1) (filled_more house_of _ hs l.loop-k.k _ (search rules))))
     (λ c.
     let l = c.before in
-    l.loop.invariant.1 ∙ filled_all house_of _ l.before.args.t1 l.loop.k (search rules)))
+    l.loop-k.invariant.1 ∙ filled_all house_of _ l.before.args.hs l.loop-k.k (search rules)))

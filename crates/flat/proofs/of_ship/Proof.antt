@@ -18,14 +18,14 @@ of_ship_spec =
     λ i. record {
       kind = x.kind;
       n = x.n;
-      timber = b.bit-of.ensures.0 i;
+      timber = b.bit_of-timber.ensures.0 i;
       length = x.length.0;
       depth = x.depth.0;
       moulded = x.moulded.0;
       block = x.block;
       waterplane = x.waterplane;
-      sheer = s.of-sheer.ensures i;
+      sheer = s.of_sheer-sheer.ensures i;
       displacement = x.displacement;
       immersion = x.immersion;
-      houses = c.of-houses.ensures i;
+      houses = c.of_houses-houses.ensures i;
     }))

@@ -20,8 +20,8 @@ to_house_spec =
     let b = c.before.before in
     let a = b.before.before in
     let h = a.before.before.args.h in
-    let at : a.station-of-mm.result.0 ≡ station_at h.aft = a.station-of-mm.ensures ∙ ap station_at (to_z-of_z {w = w64} {z = h.aft} (record { sfits = a.before.struct_told.given.1.1.0.1 })) in
-    let to : b.station-of-mm2.result.0 ≡ station_at h.fore = b.station-of-mm2.ensures ∙ ap station_at (to_z-of_z {w = w64} {z = h.fore} (record { sfits = a.before.struct_told.given.1.1.1.0.1 })) in
+    let at : a.station_of_mm-aft.result.0 ≡ station_at h.aft = a.station_of_mm-aft.ensures ∙ ap station_at (to_z-of_z {w = w64} {z = h.aft} (record { sfits = a.before.struct_told-1.given.1.1.0.1 })) in
+    let to : b.station_of_mm-fore.result.0 ≡ station_at h.fore = b.station_of_mm-fore.ensures ∙ ap station_at (to_z-of_z {w = w64} {z = h.fore} (record { sfits = a.before.struct_told-1.given.1.1.1.0.1 })) in
     λ i. record {
       enclosed = not (eqb h.enclosed 0);
       quarterdeck = not (eqb h.quarterdeck 0);

@@ -25,8 +25,8 @@ to_ship_spec =
       moulded = record { 0 = x.moulded };
       block = x.block;
       waterplane = x.waterplane;
-      sheer = s.to-sheer.ensures i;
+      sheer = s.to_sheer-sheer.ensures i;
       displacement = x.displacement;
       immersion = x.immersion;
-      houses = h.to-houses.ensures i;
+      houses = h.to_houses-houses.ensures i;
     }))

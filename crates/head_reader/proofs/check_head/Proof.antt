@@ -16,30 +16,30 @@ unfolding first pick
 check_head_spec =
     tie.close
     (tie.spec
-    (λ c. rw c.if1.true refl)
+    (λ c. rw c.if-h.true refl)
     (λ c κs. search rules)
     (λ c.
     let t = c.before.before in
     let o = t.before in
     let h = o.before.before.before.args.h in
-    let b : last_type_in h.version < h.kind = omega (arith, t.last-type-in.ensures) in
-    rw (o.if1.false, lt-ltb (last_type_in h.version) h.kind b) refl)
+    let b : last_type_in h.version < h.kind = omega (arith, t.last_type_in.ensures) in
+    rw (o.if-h.false, lt-ltb (last_type_in h.version) h.kind b) refl)
     (λ c κs. search rules)
     (λ c.
     let f = c.before in
     let t = f.before.before.before in
     let o = t.before in
     let h = o.before.before.before.args.h in
-    let b : h.kind ≤ last_type_in h.version = omega (arith, t.last-type-in.ensures) in
-    rw (o.if1.false, le-ltb (last_type_in h.version) h.kind b, sym f.timber-for-a.ensures ∙ c.if3.true) refl)
+    let b : h.kind ≤ last_type_in h.version = omega (arith, t.last_type_in.ensures) in
+    rw (o.if-h.false, le-ltb (last_type_in h.version) h.kind b, sym f.timber_for_a.ensures ∙ c.if-timber_for_a.true) refl)
     (λ c.
     let f = c.before.before.before in
     let t = f.before.before.before in
     let o = t.before in
     let h = o.before.before.before.args.h in
-    let b : h.kind ≤ last_type_in h.version = omega (arith, t.last-type-in.ensures) in
+    let b : h.kind ≤ last_type_in h.version = omega (arith, t.last_type_in.ensures) in
     let d : 8 < h.count = omega arith in
-    rw (o.if1.false, le-ltb (last_type_in h.version) h.kind b, sym f.timber-for-a.ensures ∙ c.before.before.if3.false, lt-ltb 8 h.count d) refl)
+    rw (o.if-h.false, le-ltb (last_type_in h.version) h.kind b, sym f.timber_for_a.ensures ∙ c.before.before.if-timber_for_a.false, lt-ltb 8 h.count d) refl)
     (λ c κs. search rules)
     (λ c.
     let r = c.before in
@@ -48,11 +48,11 @@ check_head_spec =
     let o = t.before in
     let s = o.before.before.before.args in
     let h = s.h in
-    let b : h.kind ≤ last_type_in h.version = omega (arith, t.last-type-in.ensures) in
-    let a = sym f.timber-for-a.ensures ∙ r.before.before.before.if3.false in
+    let b : h.kind ≤ last_type_in h.version = omega (arith, t.last_type_in.ensures) in
+    let a = sym f.timber_for_a.ensures ∙ r.before.before.before.if-timber_for_a.false in
     let d : h.count ≤ 8 = omega arith in
-    let e : s.bytes ≢ record_length h.version h.count = omega (arith, r.record-length.ensures.0, c.if5.true) in
-    rw (o.if1.false, le-ltb (last_type_in h.version) h.kind b, a, le-ltb 8 h.count d, ne_eqb s.bytes (record_length h.version h.count) e) refl)
+    let e : s.bytes ≢ record_length h.version h.count = omega (arith, r.record_length.ensures.0, c.if-bytes-record_length.true) in
+    rw (o.if-h.false, le-ltb (last_type_in h.version) h.kind b, a, le-ltb 8 h.count d, ne_eqb s.bytes (record_length h.version h.count) e) refl)
     (λ c.
     let r = c.before in
     let f = r.before.before.before.before in
@@ -60,8 +60,8 @@ check_head_spec =
     let o = t.before in
     let s = o.before.before.before.args in
     let h = s.h in
-    let b : h.kind ≤ last_type_in h.version = omega (arith, t.last-type-in.ensures) in
-    let a = sym f.timber-for-a.ensures ∙ r.before.before.before.if3.false in
+    let b : h.kind ≤ last_type_in h.version = omega (arith, t.last_type_in.ensures) in
+    let a = sym f.timber_for_a.ensures ∙ r.before.before.before.if-timber_for_a.false in
     let d : h.count ≤ 8 = omega arith in
-    let e : s.bytes ≡ record_length h.version h.count = omega (arith, r.record-length.ensures.0, c.if5.false) in
-    rw (o.if1.false, le-ltb (last_type_in h.version) h.kind b, a, le-ltb 8 h.count d, eq-eqb s.bytes (record_length h.version h.count) e) refl))
+    let e : s.bytes ≡ record_length h.version h.count = omega (arith, r.record_length.ensures.0, c.if-bytes-record_length.false) in
+    rw (o.if-h.false, le-ltb (last_type_in h.version) h.kind b, a, le-ltb 8 h.count d, eq-eqb s.bytes (record_length h.version h.count) e) refl))

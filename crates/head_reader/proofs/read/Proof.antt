@@ -56,8 +56,8 @@ read_spec =
     let b = x.before.before in
     let a = b.before.before in
     let s = a.before.before.before.args.s.now in
-    let bytes : (i : ℕ) → get_or s i 0 < 256 = λ i. omega (arith, a.before.before.shared-slice-known.given i) in
-    let version : ℕ = a.word.result / 2 ^ 60 % 2 ^ 4 in
-    (λ i. head_cut (k1.kind.ensures.0 i) (k2.kind2.ensures.0 i) (n.count.ensures.0 i) (t1.timber.ensures.0 i) (t2.timber2.ensures.0 i) (c.spare.ensures.0 i) a.word.result b.word2.result d.word4.result (o.sheer-in.ensures i))
-    ∙ (λ i. head_of_words version (a.word.ensures i) (b.word2.ensures i) (d.word4.ensures i) (sheer_in (x.word3.ensures i) (d.word4.ensures i)))
-    ∙ sym (head_words s bytes (omega arith) version (ap (λ (w : ℕ). w / 2 ^ 60 % 2 ^ 4) a.word.ensures))))
+    let bytes : (i : ℕ) → get_or s i 0 < 256 = λ i. omega (arith, a.before.before.shared_slice_known-1.given i) in
+    let version : ℕ = a.word-first.result / 2 ^ 60 % 2 ^ 4 in
+    (λ i. head_cut (k1.kind.ensures.0 i) (k2.kind-2.ensures.0 i) (n.count.ensures.0 i) (t1.timber.ensures.0 i) (t2.timber-2.ensures.0 i) (c.spare.ensures.0 i) a.word-first.result b.word-fullness.result d.word-last.result (o.sheer_in-sheer.ensures i))
+    ∙ (λ i. head_of_words version (a.word-first.ensures i) (b.word-fullness.ensures i) (d.word-last.ensures i) (sheer_in (x.word-four.ensures i) (d.word-last.ensures i)))
+    ∙ sym (head_words s bytes (omega arith) version (ap (λ (w : ℕ). w / 2 ^ 60 % 2 ^ 4) a.word-first.ensures))))

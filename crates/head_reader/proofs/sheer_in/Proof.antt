@@ -19,5 +19,5 @@ sheer_in_spec =
     let x = d.before in
     let b = x.before in
     let a = b.before in
-    λ i. record { 0 = a.ordinate-in.ensures i } ∷ record { 0 = b.ordinate-in2.ensures i } ∷ record { 0 = x.ordinate-in3.ensures i }
-    ∷ record { 0 = d.ordinate-in4.ensures i } ∷ record { 0 = e.ordinate-in5.ensures i } ∷ record { 0 = c.ordinate-in6.ensures i } ∷ []))
+    λ i. record { 0 = a.ordinate_in.ensures i } ∷ record { 0 = b.ordinate_in-2.ensures i } ∷ record { 0 = x.ordinate_in-3.ensures i }
+    ∷ record { 0 = d.ordinate_in-4.ensures i } ∷ record { 0 = e.ordinate_in-5.ensures i } ∷ record { 0 = c.ordinate_in-6.ensures i } ∷ []))

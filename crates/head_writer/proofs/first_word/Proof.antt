@@ -17,4 +17,4 @@ first_word_spec =
     (λ c. search rules)
     (λ c.
     let o = c.before.before.before in
-    first_code o.before.args.h o.opening.ensures.0))
+    first_code o.before.args.h o.opening-word.ensures.0))

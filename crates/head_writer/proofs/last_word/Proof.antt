@@ -29,6 +29,6 @@ last_word_spec =
     let s = a.before.before.before in
     let f = fit_each (head_widths s.args.h.version) (head_fields s.args.h) s.requires in
     Fits-under w64 _ (2 ^ 64)
-    (digits_lt {m = 2 ^ 48} {c = 65536} (digits_lt {m = 2 ^ 28} {c = 1048576} (digits_lt {m = 16384} {c = 16384} a.ordinate-field.ensures.1 b.ordinate-field2.ensures.1) (f 16)) (f 17))
+    (digits_lt {m = 2 ^ 48} {c = 65536} (digits_lt {m = 2 ^ 28} {c = 1048576} (digits_lt {m = 16384} {c = 16384} a.ordinate_field-word.ensures.1 b.ordinate_field.ensures.1) (f 16)) (f 17))
     tt)
     (λ c. omega arith))

@@ -58,14 +58,14 @@ opening_spec =
     let f = c.before in
     let k = f.before.before.before.before in
     let t = k.before in
-    Fits-under w64 _ 4096 (omega (arith, three t.args.h t.requires k.kind.ensures.0 k.kind.ensures.2 f.timber.ensures.2, c.bit-of.ensures.1)) tt)
+    Fits-under w64 _ 4096 (omega (arith, three t.args.h t.requires k.kind.ensures.0 k.kind.ensures.2 f.timber.ensures.2, c.bit_of.ensures.1)) tt)
     (λ c κs. search rules)
     (λ c.
     let b = c.before in
     let f = b.before in
     let k = f.before.before.before.before in
     let t = k.before in
-    Fits-under w64 _ 262081 (omega (arith, four t.args.h t.requires k.kind.ensures.0 k.kind.ensures.2 f.timber.ensures.2 b.bit-of.ensures.1 c.spare.ensures.2)) tt)
+    Fits-under w64 _ 262081 (omega (arith, four t.args.h t.requires k.kind.ensures.0 k.kind.ensures.2 f.timber.ensures.2 b.bit_of.ensures.1 c.spare.ensures.2)) tt)
     (λ c.
     let r = c.before in
     let b = r.before in
@@ -75,7 +75,7 @@ opening_spec =
     let h = t.args.h in
     let s : h.spare < r.spare.result = subst (λ (n : ℕ). h.spare < n) (sym r.spare.ensures.0) t.requires.1.1.1.1.0 in
     Fits-under w64 _ 262144
-    (omega (arith, four h t.requires k.kind.ensures.0 k.kind.ensures.2 f.timber.ensures.2 b.bit-of.ensures.1 r.spare.ensures.2, r.spare.ensures.2)) tt)
+    (omega (arith, four h t.requires k.kind.ensures.0 k.kind.ensures.2 f.timber.ensures.2 b.bit_of.ensures.1 r.spare.ensures.2, r.spare.ensures.2)) tt)
     (λ c.
     let r = c.before in
     let b = r.before in
@@ -83,5 +83,5 @@ opening_spec =
     let k = f.before.before.before.before in
     let t = k.before in
     let h = t.args.h in
-    let e = opening_code h k.kind.ensures.0 f.timber.ensures.0 r.spare.ensures.0 b.bit-of.ensures.0 in
+    let e = opening_code h k.kind.ensures.0 f.timber.ensures.0 r.spare.ensures.0 b.bit_of.ensures.0 in
     (e, subst (λ (n : ℕ). n < 65536) (sym e) (opening_lt h t.requires))))

@@ -30,5 +30,5 @@ write_spec =
     let b = f.before in
     let a = b.before in
     let s = a.before.before in
-    two_halves s.args.out.now a.first_word.result b.fullness-word.result f.four-word.result l.last_word.result s.requires.0 v.put_two.ensures w.put-two2.ensures
-    ∙ rw (a.first_word.ensures, b.fullness-word.ensures, f.four-word.ensures, l.last_word.ensures) (sym (four_words s.args.h s.requires.1))))
+    two_halves s.args.out.now a.first_word-first.result b.fullness_word-fullness.result f.four_word-four.result l.last_word-last.result s.requires.0 v.put_two.ensures w.put_two-2.ensures
+    ∙ rw (a.first_word-first.ensures, b.fullness_word-fullness.ensures, f.four_word-four.ensures, l.last_word-last.ensures) (sym (four_words s.args.h s.requires.1))))

@@ -17,8 +17,8 @@ house_of_spec =
     (tie.spec (λ c κs. search rules) (λ c κs. search rules) (λ c.
     let n = c.before.before.args.word in
     let b = c.before.before.args.breadths in
-    let aft = c.before.station-in.ensures ∙ sym (turn_low datum (n / 2 ^ 41)) in
-    let fore = c.station-in2.ensures ∙ sym (turn_low datum (n / 2 ^ 20)) in
+    let aft = c.before.station_in-aft.ensures ∙ sym (turn_low datum (n / 2 ^ 41)) in
+    let fore = c.station_in-fore.ensures ∙ sym (turn_low datum (n / 2 ^ 20)) in
     let whole : (m : ℕ) → m ≡ m / 2 ^ 0 = λ m. omega arith in
     λ i. record {
       enclosed = eqb (n / 2 ^ 63 % 2) 1;

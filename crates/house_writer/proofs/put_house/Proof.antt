@@ -38,5 +38,5 @@ put_house_spec =
     let q = a.before in
     let e = q.before in
     w.put_two.ensures
-    ∙ rw (f.station-field2.ensures.0, a.station-field.ensures.0, q.bit-of2.ensures.0, e.bit-of.ensures.0)
+    ∙ rw (f.station_field-2.ensures.0, a.station_field.ensures.0, q.bit_of.ensures.0, e.bit_of-word.ensures.0)
     (ap₂ (λ (m n : ℕ). bytes 8 m ++ bytes (length e.before.before.args.out.now - 8) n) (omega arith) (omega arith))))

@@ -20,4 +20,4 @@ follow_spec =
     (λ c κs. search rules)
     (λ c.
     let a = c.before.before.before.args in
-    rw (below_depth a.depth.0 a.s.up a.s.down (omega arith), draught_is a.depth.0 a.s.up a.s.down) c.six-marks.ensures))
+    rw (below_depth a.depth.0 a.s.up a.s.down (omega arith), draught_is a.depth.0 a.s.up a.s.down) c.six_marks.ensures))

@@ -16,5 +16,5 @@ level_of_spec =
     (λ c κs. search rules)
     (λ c.
     let u = c.before in
-    let h : u.div-up.result ≤ 2 ^ 31 = rw u.div-up.ensures (ceil_most u.before.less.result 1000 (2 ^ 31) (omega arith) (omega arith)) in
-    (rw (u.div-up.ensures, u.before.less.ensures, c.less2.ensures), (h, omega arith))))
+    let h : u.div_up-up.result ≤ 2 ^ 31 = rw u.div_up-up.ensures (ceil_most u.before.less.result 1000 (2 ^ 31) (omega arith) (omega arith)) in
+    (rw (u.div_up-up.ensures, u.before.less.ensures, c.less-down.ensures), (h, omega arith))))

@@ -29,12 +29,12 @@ six_marks_spec =
     let p = a.s.up in
     let q = a.s.down in
     let k = a.d / 48 in
-    let se : to_z w64 (of_z w64 s.minus.result) ≡ pos p -ℤ pos q = to_z-of_z w64 s.minus.result (record { sfits = s.minus.type-inv }) ∙ s.minus.ensures in
-    let te : to_z w64 (of_z w64 t.minus2.result) ≡ pos p -ℤ pos q -ℤ pos k =
-    to_z-of_z w64 t.minus2.result (record { sfits = t.minus2.type-inv }) ∙ t.minus2.ensures ∙ sym (minus_less p q k) in
-    let fe : to_z w64 (of_z w64 f.minus3.result) ≡ pos p -ℤ pos q -ℤ pos k -ℤ pos k =
-    to_z-of_z w64 f.minus3.result (record { sfits = f.minus3.type-inv }) ∙ f.minus3.ensures
+    let se : to_z w64 (of_z w64 s.minus-ls.result) ≡ pos p -ℤ pos q = to_z-of_z w64 s.minus-ls.result (record { sfits = s.minus-ls.type_inv }) ∙ s.minus-ls.ensures in
+    let te : to_z w64 (of_z w64 t.minus-lt.result) ≡ pos p -ℤ pos q -ℤ pos k =
+    to_z-of_z w64 t.minus-lt.result (record { sfits = t.minus-lt.type_inv }) ∙ t.minus-lt.ensures ∙ sym (minus_less p q k) in
+    let fe : to_z w64 (of_z w64 f.minus-ltf.result) ≡ pos p -ℤ pos q -ℤ pos k -ℤ pos k =
+    to_z-of_z w64 f.minus-ltf.result (record { sfits = f.minus-ltf.type_inv }) ∙ f.minus-ltf.ensures
     ∙ sym (ap (λ (z : ℤ). z -ℤ pos k) (minus_less p q k) ∙ minus_less p (q + k) k) in
-    let we : to_z w64 (of_z w64 c.winter-of.result) ≡ timber_winter a.reduced a.w (pos p -ℤ pos q) a.d =
-    to_z-of_z w64 c.winter-of.result (record { sfits = c.winter-of.type-inv }) ∙ c.winter-of.ensures in
+    let we : to_z w64 (of_z w64 c.winter_of-lw.result) ≡ timber_winter a.reduced a.w (pos p -ℤ pos q) a.d =
+    to_z-of_z w64 c.winter_of-lw.result (record { sfits = c.winter_of-lw.type_inv }) ∙ c.winter_of-lw.ensures in
     λ i. record { ls = se i; lt = te i; lw = we i; lwna = a.wna; lf = te i; ltf = fe i }))

@@ -13,8 +13,8 @@ use Rattle.timber.proofs.Computed.{winter_reduced, winter_plain}
 use Rattle.timber.proofs.winter_of.Statement.{statement}
 use Rattle.timber.proofs.winter_of.Tie as tie
 
-most : (c : tie.After-div-up) → c.div-up.result ≤ 2 ^ 27
-most c = rw c.div-up.ensures (ceil_most c.before.args.d 36 (2 ^ 27) (omega arith) (omega arith))
+most : (c : tie.After-div_up-more) → c.div_up-more.result ≤ 2 ^ 27
+most c = rw c.div_up-more.ensures (ceil_most c.before.args.d 36 (2 ^ 27) (omega arith) (omega arith))
 
 pub winter_of_spec : {M : Type 1} → statement M
 winter_of_spec =
@@ -32,9 +32,9 @@ winter_of_spec =
     let a = u.before.args in
     let p = a.s.up in
     let q = a.s.down in
-    let e : l.lesser.result ≡ min (p + ceil_div a.d 36) (a.w + q) = l.lesser.ensures ∙ ap (λ (n : ℕ). min (p + n) (a.w + q)) u.div-up.ensures in
-    to_z-of_z w64 c.minus.result (record { sfits = c.minus.type-inv }) ∙ c.minus.ensures ∙ ap (λ (n : ℕ). pos n -ℤ pos q) e
-    ∙ sym (ap (λ (b : Bool). timber_winter b a.w (signed a.s) a.d) t.if1.true ∙ winter_reduced a.w p q a.d))
+    let e : l.lesser.result ≡ min (p + ceil_div a.d 36) (a.w + q) = l.lesser.ensures ∙ ap (λ (n : ℕ). min (p + n) (a.w + q)) u.div_up-more.ensures in
+    to_z-of_z w64 c.minus.result (record { sfits = c.minus.type_inv }) ∙ c.minus.ensures ∙ ap (λ (n : ℕ). pos n -ℤ pos q) e
+    ∙ sym (ap (λ (b : Bool). timber_winter b a.w (signed a.s) a.d) t.if-reduced.true ∙ winter_reduced a.w p q a.d))
     (λ c κs. omega (arith, most c.before))
     (λ c.
     let t = c.before in
@@ -42,5 +42,5 @@ winter_of_spec =
     let a = u.before.args in
     let p = a.s.up in
     let q = a.s.down in
-    to_z-of_z w64 c.minus2.result (record { sfits = c.minus2.type-inv }) ∙ c.minus2.ensures ∙ ap (λ (n : ℕ). pos (p + n) -ℤ pos q) u.div-up.ensures
-    ∙ sym (ap (λ (b : Bool). timber_winter b a.w (signed a.s) a.d) t.if1.false ∙ winter_plain a.w p q a.d)))
+    to_z-of_z w64 c.minus-2.result (record { sfits = c.minus-2.type_inv }) ∙ c.minus-2.ensures ∙ ap (λ (n : ℕ). pos (p + n) -ℤ pos q) u.div_up-more.ensures
+    ∙ sym (ap (λ (b : Bool). timber_winter b a.w (signed a.s) a.d) t.if-reduced.false ∙ winter_plain a.w p q a.d)))

@@ -13,8 +13,8 @@ amidships_with_spec =
     (λ c.
     let t = c.before in
     let a = t.before.args in
-    sym (pick_true (covers_amidships a.l.0 a.h) a.own a.others (sym t.covers-amidships.ensures ∙ c.if1.true)))
+    sym (pick_true (covers_amidships a.l.0 a.h) a.own a.others (sym t.covers_amidships.ensures ∙ c.if-covers_amidships.true)))
     (λ c.
     let t = c.before in
     let a = t.before.args in
-    sym (pick_false (covers_amidships a.l.0 a.h) a.own a.others (sym t.covers-amidships.ensures ∙ c.if1.false))))
+    sym (pick_false (covers_amidships a.l.0 a.h) a.own a.others (sym t.covers_amidships.ensures ∙ c.if-covers_amidships.false))))

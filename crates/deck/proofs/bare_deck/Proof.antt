@@ -29,7 +29,7 @@ bare_deck_spec =
     (λ c.
     let n = c.before in
     let l = n.before.args.l.0 in
-    let e = n.of_none.ensures in
+    let e = n.of_none-effective.ensures in
     let forecastle = ap (λ (s : Summed). with_effective s.ordinary) e ∙ sym (bare l) in
     let amidships = ap (λ (s : Summed). none_over s.ordinary) e ∙ sym (bare_amidships l) in
     λ i. record { s = record { 0 = 0 }; effective = e i; reach = 0; forecastle = forecastle i; amidships = amidships i }))

@@ -16,7 +16,7 @@ use Rattle.deck.proofs.with_house.Statement.{statement}
 use Rattle.deck.proofs.with_house.Tie as tie
 
 -- what the calls gave, with either forecastle, is the definition's deck
-laid : (f : tie.After-is-forecastle) (b : Bool) → f.is-forecastle.result ≡ b
+laid : (f : tie.After-is_forecastle) (b : Bool) → f.is_forecastle.result ≡ b
     → let m = f.before.before in
     let r = m.before.before in
     let w = r.before in
@@ -24,11 +24,11 @@ laid : (f : tie.After-is-forecastle) (b : Bool) → f.is-forecastle.result ≡ b
     let p = e.before in
     let a = p.before.args in
     let deck : Deck = record {
-      s = record { 0 = p.part.result.0 + a.d.s.0 };
-      effective = w.with-one.result;
+      s = record { 0 = p.part-part.result.0 + a.d.s.0 };
+      effective = w.with_one-effective.result;
       reach = r.reach_of.result + a.d.reach;
-      forecastle = pick b (record { effective = e.effective-of.result; part = p.part.result; height = a.h.height }) a.d.forecastle;
-      amidships = m.amidships-with.result;
+      forecastle = pick b (record { effective = e.effective_of-own.result; part = p.part-part.result; height = a.h.height }) a.d.forecastle;
+      amidships = m.amidships_with-amidships.result;
     } in
     deck ≡ deck_with a.l.0 a.h a.d
 unfolding deck_with
@@ -39,15 +39,15 @@ laid f b t =
     let e = w.before.before.before in
     let p = e.before in
     let a = p.before.args in
-    let q : b ≡ is_forecastle a.l.0 a.h = sym t ∙ f.is-forecastle.ensures in
-    let own = e.effective-of.ensures.1.0 in
-    let sums = w.with-one.ensures ∙ ap (λ (u : Unrounded). summed_with a.h u a.d.effective) own in
-    let ratio = m.amidships-with.ensures ∙ (λ i. pick (covers_amidships a.l.0 a.h) (p.before.requires.2 i) a.d.amidships) in
+    let q : b ≡ is_forecastle a.l.0 a.h = sym t ∙ f.is_forecastle.ensures in
+    let own = e.effective_of-own.ensures.1.0 in
+    let sums = w.with_one-effective.ensures ∙ ap (λ (u : Unrounded). summed_with a.h u a.d.effective) own in
+    let ratio = m.amidships_with-amidships.ensures ∙ (λ i. pick (covers_amidships a.l.0 a.h) (p.before.requires.2 i) a.d.amidships) in
     λ i. record {
-      s = record { 0 = p.part.ensures.0 i + a.d.s.0 };
+      s = record { 0 = p.part-part.ensures.0 i + a.d.s.0 };
       effective = sums i;
       reach = r.reach_of.ensures.0 i + a.d.reach;
-      forecastle = pick (q i) (record { effective = own i; part = record { 0 = p.part.ensures.0 i }; height = a.h.height }) a.d.forecastle;
+      forecastle = pick (q i) (record { effective = own i; part = record { 0 = p.part-part.ensures.0 i }; height = a.h.height }) a.d.forecastle;
       amidships = ratio i;
     }
 
@@ -64,11 +64,11 @@ with_house_spec =
     let s = e.before.before in
     let d = s.requires.3 in
     let h = s.args.h in
-    let over = ap (λ (u : Unrounded). u.bottom) e.effective-of.ensures.1.0 in
-    (e.effective-of.ensures.1.1, d.sums, λ f. over ∙ bottom_full s.args.l.0 h f ∙ sym (d.bottoms h.quarterdeck)))
+    let over = ap (λ (u : Unrounded). u.bottom) e.effective_of-own.ensures.1.0 in
+    (e.effective_of-own.ensures.1.1, d.sums, λ f. over ∙ bottom_full s.args.l.0 h f ∙ sym (d.bottoms h.quarterdeck)))
     (λ c κs. search rules)
     (λ c. search rules)
     (λ c κs. search rules)
     (λ c κs. search rules)
-    (λ c. laid c.before.before _ c.before.if1.true)
-    (λ c. laid c.before _ c.if1.false))
+    (λ c. laid c.before.before _ c.before.if-is_forecastle.true)
+    (λ c. laid c.before _ c.if-is_forecastle.false))

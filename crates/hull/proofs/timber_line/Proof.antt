@@ -18,9 +18,9 @@ timber_line_spec =
     let t = timber_kind_lem x.kind in
     let g = s.requires.good in
     let P : ℕ → Type 0 = λ k. (k ≤ kind_covers) × (k ≡ kind_covers → x.length.0 ≤ 200000) in
-    ((g.length_least, g.length_most), subst P (sym c.for-timber.ensures) (t.0 s.requires.type, λ e. g.covers_short (t.1 e))))
+    ((g.length_least, g.length_most), subst P (sym c.for_timber.ensures) (t.0 s.requires.type, λ e. g.covers_short (t.1 e))))
     (λ c.
     let b = c.before in
     let f = b.before in
     let x = f.before.args.x in
-    (b.basis-of.ensures.0.0 ∙ ap (λ (k : ℕ). (basis_of k x.length.0).line) f.for-timber.ensures, b.basis-of.ensures.1.0)))
+    (b.basis_of-b.ensures.0.0 ∙ ap (λ (k : ℕ). (basis_of k x.length.0).line) f.for_timber.ensures, b.basis_of-b.ensures.1.0)))

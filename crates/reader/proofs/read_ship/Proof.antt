@@ -28,21 +28,21 @@ read_ship_spec =
     (λ c.
     let n = c.before.before in
     let t = n.before.before in
-    omega (arith, spare_within t.args.s.now, ap (λ (h : Head). h.spare) t.requires.0, n.houses-in.ensures.2))
+    omega (arith, spare_within t.args.s.now, ap (λ (h : Head). h.spare) t.requires.0, n.houses_in-all.ensures.2))
     (λ c κs. search rules)
     (λ c.
     let n = c.before.before.before.before in
     let t = n.before.before in
     let s = t.args.s.now in
     let h = t.args.h in
-    let z : h.spare + spares_in h.version s h.count ≢ 0 = omega (arith, n.houses-in.ensures.1, c.before.if1.true) in
+    let z : h.spare + spares_in h.version s h.count ≢ 0 = omega (arith, n.houses_in-all.ensures.1, c.before.if-h-all-ne0.true) in
     c.refuse.ensures ∙ sym (reading_unframed s SpareBit (spare_set s h t.requires.0 t.requires.1 t.requires.2 z)))
     (λ c κs.
     let t = c.before.before.before.before.before.before in
     (headed t.args.h _ t.requires.2).0)
     (λ c κs.
     let t = c.before.before.before.before.before.before.before in
-    omega (arith, (headed t.args.h _ t.requires.2).0, ap (λ (x : Ship). x.n) c.ship-of.ensures))
+    omega (arith, (headed t.args.h _ t.requires.2).0, ap (λ (x : Ship). x.n) c.ship_of.ensures))
     (λ c.
     let o = c.before in
     let e = o.before.before in
@@ -50,7 +50,7 @@ read_ship_spec =
     let t = n.before.before in
     let s = t.args.s.now in
     let h = t.args.h in
-    let z : h.spare + spares_in h.version s h.count ≡ 0 = omega (arith, n.houses-in.ensures.1, e.if1.false) in
-    let x = o.ship-of.ensures ∙ ap (ship_of h) n.houses-in.ensures.0 ∙ ship_whole s h t.requires.0 t.requires.1 in
+    let z : h.spare + spares_in h.version s h.count ≡ 0 = omega (arith, n.houses_in-all.ensures.1, e.if-h-all-ne0.false) in
+    let x = o.ship_of.ensures ∙ ap (ship_of h) n.houses_in-all.ensures.0 ∙ ship_whole s h t.requires.0 t.requires.1 in
     c.judge.ensures
     ∙ ap (λ (x : Ship). reading_of (first (ship_lines x)) x) x ∙ sym (reading_framed s (spare_clear s h t.requires.0 t.requires.1 t.requires.2 z))))

@@ -10,4 +10,4 @@ refuse_spec =
     tie.close
     (tie.spec (λ c κs. search rules) (λ c.
     let r = c.before.args.r in
-    ap (λ (x : Ship). record { verdict = refused_as r; ship = x }) c.no-ship.ensures))
+    ap (λ (x : Ship). record { verdict = refused_as r; ship = x }) c.no_ship-none.ensures))

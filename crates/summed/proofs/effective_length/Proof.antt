@@ -10,11 +10,11 @@ effective_length_spec =
     (tie.spec
     (λ c κs. c.requires.ordinary.fair)
     (λ c κs. c.before.requires.raised.fair)
-    (λ c. let r = c.before.before in omega (arith, r.rounded2.ensures.1, r.before.rounded.ensures.1))
+    (λ c. let r = c.before.before in omega (arith, r.rounded-raised.ensures.1, r.before.rounded-ordinary.ensures.1))
     (λ c.
     let r = c.before.before.before in
-    omega (arith, r.rounded2.ensures.1, r.before.rounded.ensures.1, r.before.before.requires.own))
+    omega (arith, r.rounded-raised.ensures.1, r.before.rounded-ordinary.ensures.1, r.before.before.requires.own))
     (λ c.
     let r = c.before.before.before in
     let own = r.before.before.args.s.own.0 in
-    ap₂ (λ (a b : ℕ). a + b + own) r.before.rounded.ensures.0 r.rounded2.ensures.0))
+    ap₂ (λ (a b : ℕ). a + b + own) r.before.rounded-ordinary.ensures.0 r.rounded-raised.ensures.0))

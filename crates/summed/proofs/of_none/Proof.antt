@@ -15,7 +15,7 @@ of_none_spec =
     (λ c.
     let o = c.before in
     λ i. record {
-      ordinary = record { top = 0; bottom = (o.standard-height.ensures.1.0 i).size };
-      raised = record { top = 0; bottom = (c.standard-height2.ensures.1.0 i).size };
+      ordinary = record { top = 0; bottom = (o.standard_height-ordinary.ensures.1.0 i).size };
+      raised = record { top = 0; bottom = (c.standard_height-raised.ensures.1.0 i).size };
       own = record { 0 = 0 };
     }))

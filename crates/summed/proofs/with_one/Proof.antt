@@ -12,8 +12,8 @@ use Rattle.summed.proofs.Sums.{not-true, by_kind}
 use Rattle.summed.proofs.with_one.Statement.{statement}
 use Rattle.summed.proofs.with_one.Tie as tie
 
-full : (c : tie.Else1) → let b = c.before in full_breadth b.before.before.before.before.args.h ≡ true
-full c = let b = c.before in sym b.full-breadth.ensures ∙ not-false _ c.if1.false
+full : (c : tie.Else-not-full_breadth) → let b = c.before in full_breadth b.before.before.before.before.args.h ≡ true
+full c = let b = c.before in sym b.full_breadth.ensures ∙ not-false _ c.if-not-full_breadth.false-raw
 
 pub with_one_spec : {M : Type 1} → statement M
 unfolding pick
@@ -31,24 +31,24 @@ with_one_spec =
     let b = t.before in
     let a = b.before.before.before.before.args in
     (λ i. record { ordinary = a.s.ordinary; raised = a.s.raised; own = record { 0 = r.rounded.ensures.0 i + a.s.own.0 } })
-    ∙ sym (by_kind a.h a.e a.s (sym b.full-breadth.ensures ∙ not-true _ t.if1.true) refl))
+    ∙ sym (by_kind a.h a.e a.s (sym b.full_breadth.ensures ∙ not-true _ t.if-not-full_breadth.true-raw) refl))
     (λ c κs.
     let t = c.before in
     let s = t.before.before.before.before.before in
-    (s.requires.0, s.requires.1.raised, s.requires.2 (full t) ∙ ap (λ (q : Bool). bottom_in q s.args.s) c.if2.true))
+    (s.requires.0, s.requires.1.raised, s.requires.2 (full t) ∙ ap (λ (q : Bool). bottom_in q s.args.s) c.if-h.true))
     (λ c.
     let u = c.before in
     let t = u.before in
     let a = t.before.before.before.before.before.args in
     (λ i. record { ordinary = a.s.ordinary; raised = c.plus.ensures i; own = a.s.own })
-    ∙ sym (by_kind a.h a.e a.s (full t) u.if2.true))
+    ∙ sym (by_kind a.h a.e a.s (full t) u.if-h.true))
     (λ c κs.
     let t = c.before in
     let s = t.before.before.before.before.before in
-    (s.requires.0, s.requires.1.ordinary, s.requires.2 (full t) ∙ ap (λ (q : Bool). bottom_in q s.args.s) c.if2.false))
+    (s.requires.0, s.requires.1.ordinary, s.requires.2 (full t) ∙ ap (λ (q : Bool). bottom_in q s.args.s) c.if-h.false))
     (λ c.
     let u = c.before in
     let t = u.before in
     let a = t.before.before.before.before.before.args in
-    (λ i. record { ordinary = c.plus2.ensures i; raised = a.s.raised; own = a.s.own })
-    ∙ sym (by_kind a.h a.e a.s (full t) u.if2.false)))
+    (λ i. record { ordinary = c.plus-2.ensures i; raised = a.s.raised; own = a.s.own })
+    ∙ sym (by_kind a.h a.e a.s (full t) u.if-h.false)))

@@ -15,8 +15,8 @@ use Rattle.writer.proofs.put_record.Statement.{statement}
 use Rattle.writer.proofs.put_record.Tie as tie
 
 -- the head is that of the ship's record
-headed : (d : tie.After-head-of) → d.head_of.result ≡ ship_head d.before.before.before.args.x
-headed d = d.head_of.ensures ∙ ap (λ (v : ℕ). head_for v d.before.before.before.args.x) d.before.lowest-for.ensures
+headed : (d : tie.After-head_of-h) → d.head_of-h.result ≡ ship_head d.before.before.before.args.x
+headed d = d.head_of-h.ensures ∙ ap (λ (v : ℕ). head_for v d.before.before.before.args.x) d.before.lowest_for-version.ensures
 
 pub put_record_spec : {M : Type 1} → statement M
 unfolding record_bytes
@@ -36,8 +36,8 @@ put_record_spec =
     let v = c.before.before.before.before.before.before.before in
     let s = v.before.before in
     let a = s.args in
-    let e = sym v.lowest-for.ensures in
-    let room : record_length v.lowest-for.result a.x.n ≤ length a.buf.now = subst (λ (z : ℕ). record_length z a.x.n ≤ length a.buf.now) e s.requires.0.1 in
+    let e = sym v.lowest_for-version.ensures in
+    let room : record_length v.lowest_for-version.result a.x.n ≤ length a.buf.now = subst (λ (z : ℕ). record_length z a.x.n ≤ length a.buf.now) e s.requires.0.1 in
     ((omega arith, omega (arith, room)), subst (λ (z : ℕ). HousesFit z (houses_of a.x)) e s.requires.1.1))
     (λ c. search rules)
     (λ c.
@@ -47,5 +47,5 @@ put_record_spec =
     let v = d.before in
     let s = v.before.before in
     let x = s.args.x in
-    w.put-houses.ensures
-    ∙ rw (h.write.ensures, headed d, v.lowest-for.ensures) (behind_head (lowest_for x) (head_bytes (ship_head x)) s.args.buf.now x.n x.houses (length_head_bytes (ship_head x)))))
+    w.put_houses.ensures
+    ∙ rw (h.write.ensures, headed d, v.lowest_for-version.ensures) (behind_head (lowest_for x) (head_bytes (ship_head x)) s.args.buf.now x.n x.houses (length_head_bytes (ship_head x)))))

@@ -25,13 +25,13 @@ verdict_spec =
     let f = c.before in
     let x = f.before.before.before.args.x in
     let h : x.kind ≤ 4 = omega arith in
-    rw (le-ltb 4 x.kind h, sym f.timber-for-a.ensures ∙ c.if2.true) refl)
+    rw (le-ltb 4 x.kind h, sym f.timber_for_a.ensures ∙ c.if-timber_for_a.true) refl)
     (λ c.
     let f = c.before.before in
     let x = f.before.before.before.args.x in
     let h : x.kind ≤ 4 = omega arith in
     let k : 8 < x.n = omega arith in
-    rw (le-ltb 4 x.kind h, sym f.timber-for-a.ensures ∙ c.before.if2.false, lt-ltb 8 x.n k) refl)
+    rw (le-ltb 4 x.kind h, sym f.timber_for_a.ensures ∙ c.before.if-timber_for_a.false, lt-ltb 8 x.n k) refl)
     (λ c κs. search rules)
     (λ c κs. search rules)
     (λ c κs. search rules)
@@ -45,6 +45,6 @@ verdict_spec =
     let t = v.before.before in
     let f = t.before in
     let a = f.before.before.before.args in
-    let bytes : r.record-length.result ≡ bytes_for a.x = r.record-length.ensures.0 ∙ ap (λ (w : ℕ). record_length w a.x.n) v.lowest-for.ensures in
+    let bytes : r.record_length.result ≡ bytes_for a.x = r.record_length.ensures.0 ∙ ap (λ (w : ℕ). record_length w a.x.n) v.lowest_for.ensures in
     c.after.ensures
-    ∙ rw (o.of-ship.ensures, l.line.ensures, bytes) (sym (writing_judged a.room a.x (omega arith) (sym f.timber-for-a.ensures ∙ t.if2.false) (omega arith)))))
+    ∙ rw (o.of_ship-checked.ensures, l.line-last.ensures, bytes) (sym (writing_judged a.room a.x (omega arith) (sym f.timber_for_a.ensures ∙ t.if-timber_for_a.false) (omega arith)))))

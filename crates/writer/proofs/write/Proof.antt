@@ -15,14 +15,11 @@ use Rattle.record.specs.Writing.{written}
 use Rattle.record.proofs.Written.{writing_passed, head_fits, houses_fit}
 use Rattle.writer.proofs.write.Statement.{statement}
 use Rattle.writer.proofs.write.Tie as tie
+use Rattle.writer.proofs.write.Tie.{in-Accepted, in-Refused}
 
 -- the ship is good where nothing refuses it
-told : (m : tie.At-match-branch) → eqb (paper m.before.verdict.result).number 0 ≡ m.match.good
-told m =
-    ⊎_elim
-    (λ w. rw (w.1.given.1, w.2) refl)
-    (λ w. rw (w.1.given.1, w.2) (ne_eqb (number_of w.1.given.0.0) 0 (λ z. omega (arith, number_above_0 w.1.given.0.0))))
-    m.match.branch
+told : (m : tie.Joined-v) → eqb (paper m.before.verdict-v.result).number 0 ≡ m.match-v.good
+told m = elim m.match-v.branch [ in-Accepted w ↦ ? | in-Refused w ↦ ? ]
 
 pub write_spec : {M : Type 1} → statement M
 unfolding written pick
@@ -36,8 +33,8 @@ write_spec =
     let t = c.before in
     let m = t.before in
     let a = m.before.before.before.args in
-    let e = eqb-true _ 0 (told m ∙ t.if1.true) in
-    let p = writing_passed (length a.buf.now) a.x (ap (λ (z : Paper). z.number) (sym m.before.verdict.ensures) ∙ e) in
+    let e = eqb-true _ 0 (told m ∙ t.if-good.true) in
+    let p = writing_passed (length a.buf.now) a.x (ap (λ (z : Paper). z.number) (sym m.before.verdict-v.ensures) ∙ e) in
     let g = good a.x (ap (λ (z : Paper). z.number) p.3) in
     ((p.2, p.4), (head_fits a.x p.0 p.2 g, houses_fit a.x g)))
     (λ c. search rules)
@@ -45,7 +42,7 @@ write_spec =
     let w = c.before.before in
     let t = w.before.before in
     let m = t.before in
-    (m.before.verdict.ensures, rw (told m ∙ t.if1.true) w.put_record.ensures))
+    (m.before.verdict-v.ensures, rw (told m ∙ t.if-good.true) w.put_record.ensures))
     (λ c.
     let m = c.before in
-    (m.before.verdict.ensures, rw (told m ∙ c.if1.false) refl)))
+    (m.before.verdict-v.ensures, rw (told m ∙ c.if-good.false) refl)))

@@ -16,17 +16,17 @@ of_record_spec =
     let a = c.before in
     let r = a.before.before in
     let s = r.before.before.args.s.now in
-    sound_read s r.read.result.ship (read_as s r.read.result r.read.ensures a.enum_told.given.1))
+    sound_read s r.read-a.result.ship (read_as s r.read-a.result r.read-a.ensures a.enum_told-1.given.1))
     (λ c. search rules)
     (λ c.
     let a = c.before.before in
     let r = a.before.before in
     let s = r.before.before.args.s.now in
-    let e = c.of-ship.ensures.0 ∙ sym (answer_read s r.read.result.ship (read_as s r.read.result r.read.ensures a.enum_told.given.1)) in
-    (e, bounded_in s c.of-ship.result e))
+    let e = c.of_ship.ensures.0 ∙ sym (answer_read s r.read-a.result.ship (read_as s r.read-a.result r.read-a.ensures a.enum_told-1.given.1)) in
+    (e, bounded_in s c.of_ship.result e))
     (λ c.
     let v = c.before in
     let r = v.before.before in
     let s = r.before.before.args.s.now in
-    let n = v.v.given.0.0 in
-    (sym (answer_refused s n (read_refused s r.read.result r.read.ensures n v.v.given.1)), tt)))
+    let n = v.v-1.given.0.0 in
+    (sym (answer_refused s n (read_refused s r.read-a.result r.read-a.ensures n v.v-1.given.1)), tt)))

@@ -20,11 +20,11 @@ use Rattle.marks.proofs.Demand.{bounded}
 use Rattle.marks.proofs.of_ship.Statement.{statement}
 use Rattle.marks.proofs.of_ship.Tie as tie
 
-ship_at : tie.After-follow → Ship
+ship_at : tie.After-follow-a → Ship
 ship_at f = f.before.before.before.before.before.before.args.x
 
 -- the ordinary answer, by its parts
-ordinary : (f : tie.After-follow) → sheet f.follow.result ≡ sheet_for (ship_at f)
+ordinary : (f : tie.After-follow-a) → sheet f.follow-a.result ≡ sheet_for (ship_at f)
 unfolding sheet_for ship_at
 ordinary f =
     let p = f.before in
@@ -33,11 +33,11 @@ ordinary f =
     let h = d.before in
     let s = h.before.before in
     let x = s.args.x in
-    let summer : m.summer-on.result ≡ summer_of x = m.summer-on.ensures ∙ ap₂ summer_on h.hull-of.ensures.0 d.deck_of_lem.ensures.0 ∙ summer_parts x s.requires.good.houses in
-    f.follow.ensures ∙ ap₂ sheet_at p.particulars-of.ensures summer
+    let summer : m.summer_on-s.result ≡ summer_of x = m.summer_on-s.ensures ∙ ap₂ summer_on h.hull_of-h.ensures.0 d.deck_of_lem.ensures.0 ∙ summer_parts x s.requires.good.houses in
+    f.follow-a.ensures ∙ ap₂ sheet_at p.particulars_of.ensures summer
 
-given : (a : tie.After-a) → sheet (Given a.a.given.0.0) ≡ sheet_for (ship_at a.before.before)
-given a = ap sheet (sym a.a.given.1) ∙ ordinary a.before.before
+given : (a : tie.In-Given-2) → sheet (Given a.a-1.given.0.0) ≡ sheet_for (ship_at a.before.before)
+given a = ap sheet (sym a.a-1.given.1) ∙ ordinary a.before.before
 
 -- W has room
 small : (x : Ship) → Sound x → (m : Marks) → sheet (Given m) ≡ sheet_for x → m.w ≤ 120000
@@ -54,12 +54,12 @@ of_ship_spec =
     (tie.spec
     (λ c κs. search rules)
     (λ c κs. search rules)
-    (λ c κs. (c.before.hull-of.ensures.1, rw c.before.hull-of.ensures.0 c.deck_of_lem.ensures.1))
-    (λ c κs. ap (λ (h : Hull). h.basis.floor) c.before.before.hull-of.ensures.0)
+    (λ c κs. (c.before.hull_of-h.ensures.1, rw c.before.hull_of-h.ensures.0 c.deck_of_lem.ensures.1))
+    (λ c κs. ap (λ (h : Hull). h.basis.floor) c.before.before.hull_of-h.ensures.0)
     (λ c κs.
     let d = c.before.before in
     let s = d.before.before.before in
-    rw c.particulars-of.ensures (fair_particulars s.args.x s.requires))
+    rw c.particulars_of.ensures (fair_particulars s.args.x s.requires))
     (λ c. search rules)
     (λ c κs.
     let f = c.before.before.before.before in
@@ -67,28 +67,28 @@ of_ship_spec =
     let h = d.before in
     let s = h.before.before in
     let x = s.args.x in (
-      (s.requires, h.hull-of.ensures.0, d.deck_of_lem.ensures.0, small x s.requires _ (given c.before.before)),
-      (h.hull-of.ensures.1, rw h.hull-of.ensures.0 d.deck_of_lem.ensures.1),
+      (s.requires, h.hull_of-h.ensures.0, d.deck_of_lem.ensures.0, small x s.requires _ (given c.before.before)),
+      (h.hull_of-h.ensures.1, rw h.hull_of-h.ensures.0 d.deck_of_lem.ensures.1),
     ))
     (λ c.
     let a = c.before.before.before in
     let f = a.before.before in
     let x = ship_at f in
-    let m = a.a.given.0.0 in
-    let t = c.timber-marks.result in
-    let e = with_timber x m t (given a) c.before.if1.true c.timber-marks.ensures in
+    let m = a.a-1.given.0.0 in
+    let t = c.timber_marks.result in
+    let e = with_timber x m t (given a) c.before.if-x.true c.timber_marks.ensures in
     (e, bounded x f.before.before.before.before.before.before.requires (Whole.WithTimber m t) e))
     (λ c. search rules)
     (λ c.
     let a = c.before.before in
     let f = a.before.before in
     let x = ship_at f in
-    let m = a.a.given.0.0 in
-    let e = without_timber x m (given a) c.if1.false in
+    let m = a.a-1.given.0.0 in
+    let e = without_timber x m (given a) c.if-x.false in
     (e, bounded x f.before.before.before.before.before.before.requires (Whole.Given m) e))
     (λ c.
     let a = c.before in
     let f = a.before.before in
     let x = ship_at f in
-    let e = with_refusal x a.a2.given.0.0 (ap sheet (sym a.a2.given.1) ∙ ordinary f) in
+    let e = with_refusal x a.a-in-Refused-1.given.0.0 (ap sheet (sym a.a-in-Refused-1.given.1) ∙ ordinary f) in
     (e, tt)))

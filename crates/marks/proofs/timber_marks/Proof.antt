@@ -25,6 +25,6 @@ timber_marks_spec =
     let x = s.args.x in
     let m = s.args.m in
     let p = s.requires.0 in
-    let ls : signed t.timber-on.result ≡ timber_summer_of x =
-    ap signed (t.timber-on.ensures.0 ∙ (λ i. timber_on (l.timber-line.ensures.0 i) (p.1 i) (p.2 i))) ∙ timber_parts x p.0.good.houses in
-    c.follow.ensures ∙ (λ i. timber_marks (b.is-reduced.ensures i) m.w m.wna x.depth.0 (ls i))))
+    let ls : signed t.timber_on-s.result ≡ timber_summer_of x =
+    ap signed (t.timber_on-s.ensures.0 ∙ (λ i. timber_on (l.timber_line.ensures.0 i) (p.1 i) (p.2 i))) ∙ timber_parts x p.0.good.houses in
+    c.follow.ensures ∙ (λ i. timber_marks (b.is_reduced.ensures i) m.w m.wna x.depth.0 (ls i))))

@@ -16,4 +16,4 @@ added_spec =
     (λ c.
     let s = c.before in
     let m = s.before in
-    (rw (c.sum2.ensures, s.sum.ensures, m.made-full.ensures.0) refl, omega (arith, c.sum2.ensures, s.sum.ensures))))
+    (rw (c.sum-2.ensures, s.sum.ensures, m.made_full-full.ensures.0) refl, omega (arith, c.sum-2.ensures, s.sum.ensures))))

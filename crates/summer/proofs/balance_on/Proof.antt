@@ -21,6 +21,6 @@ balance_on_spec =
     let e = s.before in
     let t = e.before.before.before.args in
     let d = t.d in
-    let gained = a.added.ensures.0 ∙ (λ i. added_on t.line.0 t.h (e.effective-length.ensures i) (s.correct.ensures.0.0 i)) in
-    let lost = c.taken.ensures.0 ∙ (λ i. taken_on (entries t.row) t.h d.amidships d.forecastle.effective (e.effective-length.ensures i) (s.correct.ensures.0.1 i)) in
-    (λ i. record { added = record { 0 = gained i }; taken = record { 0 = lost i } }, (a.added.ensures.1, c.taken.ensures.1))))
+    let gained = a.added-gained.ensures.0 ∙ (λ i. added_on t.line.0 t.h (e.effective_length-e.ensures i) (s.correct-c.ensures.0.0 i)) in
+    let lost = c.taken-lost.ensures.0 ∙ (λ i. taken_on (entries t.row) t.h d.amidships d.forecastle.effective (e.effective_length-e.ensures i) (s.correct-c.ensures.0.1 i)) in
+    (λ i. record { added = record { 0 = gained i }; taken = record { 0 = lost i } }, (a.added-gained.ensures.1, c.taken-lost.ensures.1))))

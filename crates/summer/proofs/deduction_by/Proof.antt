@@ -18,12 +18,12 @@ deduction_by_spec =
     (λ c κs.
     let t = c.before.before in
     let r = each_row t.before.args.row in
-    omega (arith, neighbours r.rising r.eleven t.tenth-of.ensures.1 c.before.percentage.ensures.0 c.percentage2.ensures.0))
+    omega (arith, neighbours r.rising r.eleven t.tenth_of-j.ensures.1 c.before.percentage-p.ensures.0 c.percentage-q.ensures.0))
     (λ c κs. search rules)
     (λ c.
     let q = c.before.before in
     let t = q.before.before in
     let a = t.before.args in
     let r = each_row a.row in
-    let e = share_read r.rising r.eleven a.l.0 a.e.0 (omega arith) (omega arith) t.tenth-of.ensures.0 q.before.percentage.ensures.0 q.percentage2.ensures.0 in
-    (unfold deduction in rw (c.before.share.ensures.0, e) at c.of-full.ensures.0, c.of-full.ensures.1)))
+    let e = share_read r.rising r.eleven a.l.0 a.e.0 (omega arith) (omega arith) t.tenth_of-j.ensures.0 q.before.percentage-p.ensures.0 q.percentage-q.ensures.0 in
+    (unfold deduction in rw (c.before.share.ensures.0, e) at c.of_full.ensures.0, c.of_full.ensures.1)))

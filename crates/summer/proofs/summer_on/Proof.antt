@@ -17,4 +17,4 @@ summer_on_spec =
     let f = c.before in
     let b = f.before in
     let h = b.before.before.before.args.h in
-    c.summer.ensures.0 ∙ (λ i. summer_mark h.basis.floor (b.balance-on.ensures.0 i).added.0 (b.balance-on.ensures.0 i).taken.0 (f.freeboard.ensures.0 i))))
+    c.summer.ensures.0 ∙ (λ i. summer_mark h.basis.floor (b.balance_on-b.ensures.0 i).added.0 (b.balance_on-b.ensures.0 i).taken.0 (f.freeboard-bow.ensures.0 i))))

@@ -20,6 +20,6 @@ taken_spec =
     let s = c.before in
     let g = s.before in
     let f = g.before in (
-      rw (c.sum2.ensures, s.sum.ensures, g.if-granted.ensures.0, f.deduction-by.ensures.0, f.before.reduction.ensures.0) refl,
-      omega (arith, c.sum2.ensures, s.sum.ensures, g.if-granted.ensures.1, f.deduction-by.ensures.1, f.before.reduction.ensures.1),
+      rw (c.sum-2.ensures, s.sum.ensures, g.if_granted-granted.ensures.0, f.deduction_by-full.ensures.0, f.before.reduction-shallow.ensures.0) refl,
+      omega (arith, c.sum-2.ensures, s.sum.ensures, g.if_granted-granted.ensures.1, f.deduction_by-full.ensures.1, f.before.reduction-shallow.ensures.1),
     )))

@@ -14,4 +14,4 @@ timber_on_spec =
     (λ c κs. search rules)
     (λ c.
     let b = c.before in
-    (c.level-of.ensures.0 ∙ (λ i. level_of (b.balance-on.ensures.0 i).added.0 (b.balance-on.ensures.0 i).taken.0), c.level-of.ensures.1)))
+    (c.level_of.ensures.0 ∙ (λ i. level_of (b.balance_on-b.ensures.0 i).added.0 (b.balance_on-b.ensures.0 i).taken.0), c.level_of.ensures.1)))

@@ -17,7 +17,7 @@ unfolding deck_for
 deck_for_spec =
     tie.close
     (tie.spec
-    (λ c. let k = c.before.before.before.args.k in sym (pick_true (eqb k 0) _ _ (eq-eqb k 0 c.if1.true)))
+    (λ c. let k = c.before.before.before.args.k in sym (pick_true (eqb k 0) _ _ (eq-eqb k 0 c.if-k-eq0.true)))
     (λ c κs. search rules)
     (λ c κs.
     let e = c.before.before in
@@ -25,9 +25,9 @@ deck_for_spec =
     let q = s.args.q in
     let f = s.requires.0 in (
       f.hull.length_most,
-      rw c.poop-house.ensures
-          (poop_good q.hull.length.0 q.height.0 s.args.k (omega (arith, e.if1.false)) (omega (arith, f.hull.length_least)) s.requires.1 f.height_least f.height_most),
-      f.ratio s.args.k ∙ ap (ratio_of q.hull.length.0) (sym c.poop-house.ensures),
+      rw c.poop_house.ensures
+          (poop_good q.hull.length.0 q.height.0 s.args.k (omega (arith, e.if-k-eq0.false)) (omega (arith, f.hull.length_least)) s.requires.1 f.height_least f.height_most),
+      f.ratio s.args.k ∙ ap (ratio_of q.hull.length.0) (sym c.poop_house.ensures),
       f.deck,
     ))
     (λ c.
@@ -35,6 +35,6 @@ deck_for_spec =
     let e = p.before.before in
     let a = e.before.before.before.args in
     let q = a.q in
-    c.with-house.ensures
-    ∙ ap (λ (h : House). deck_with q.hull.length.0 h q.deck) p.poop-house.ensures
-    ∙ sym (pick_false (eqb a.k 0) _ _ (ne_eqb a.k 0 e.if1.false))))
+    c.with_house.ensures
+    ∙ ap (λ (h : House). deck_with q.hull.length.0 h q.deck) p.poop_house.ensures
+    ∙ sym (pick_false (eqb a.k 0) _ _ (ne_eqb a.k 0 e.if-k-eq0.false))))

@@ -17,14 +17,14 @@ fits_spec =
     (λ c.
     let p = c.before.before.before.before in
     let a = p.before.args in
-    let t : a.q.room.0 < 100 * a.k = rw p.span-of-dm.ensures at c.if1.true in
+    let t : a.q.room.0 < 100 * a.k = rw p.span_of_dm-poop.ensures at c.if-room-poop.true in
     rw (lt-leb (100 * a.k) a.q.room.0 t) refl)
     (λ c κs. search rules)
     (λ c κs.
     let e = c.before.before in
     let p = e.before.before.before.before in
     let s = p.before in
-    (s.requires.0.hull, rw c.deck-for.ensures (s.requires.0.poop s.args.k s.requires.1 (rw p.span-of-dm.ensures at e.if1.false))))
+    (s.requires.0.hull, rw c.deck_for-d.ensures (s.requires.0.poop s.args.k s.requires.1 (rw p.span_of_dm-poop.ensures at e.if-room-poop.false))))
     (λ c κs. search rules)
     (λ c.
     let s = c.before in
@@ -32,6 +32,6 @@ fits_spec =
     let e = d.before.before in
     let p = e.before.before.before.before in
     let a = p.before.args in
-    let t : 100 * a.k ≤ a.q.room.0 = rw p.span-of-dm.ensures at e.if1.false in
+    let t : 100 * a.k ≤ a.q.room.0 = rw p.span_of_dm-poop.ensures at e.if-room-poop.false in
     rw (le-leb (100 * a.k) a.q.room.0 t)
-    (c.marked.ensures ∙ ap (marked_on a.q) (s.summer-on.ensures ∙ ap (summer_on a.q.hull) d.deck-for.ensures))))
+    (c.marked.ensures ∙ ap (marked_on a.q) (s.summer_on.ensures ∙ ap (summer_on a.q.hull) d.deck_for-d.ensures))))

@@ -44,8 +44,8 @@ marked_spec =
     let o = c.before.before.before in
     let f = o.before.before in
     let a = f.before.args in
-    told (Given o.a.given.0.0) a.q.particulars a.s a.q.wish (sym (ap sheet o.a.given.1) ∙ f.follow.ensures))
+    told (Given o.a-1.given.0.0) a.q.particulars a.s a.q.wish (sym (ap sheet o.a-1.given.1) ∙ f.follow-a.ensures))
     (λ c.
     let f = c.before.before in
     let a = f.before.args in
-    told (Refused c.enum_told.given.0.0) a.q.particulars a.s a.q.wish (sym (ap sheet c.enum_told.given.1) ∙ f.follow.ensures)))
+    told (Refused c.enum_told-1.given.0.0) a.q.particulars a.s a.q.wish (sym (ap sheet c.enum_told-1.given.1) ∙ f.follow-a.ensures)))

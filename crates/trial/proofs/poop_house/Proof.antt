@@ -15,11 +15,11 @@ poop_house_spec =
     (λ c.
     let d = c.before in
     let a = d.before in
-    let fore = rw d.span-of-dm.ensures at c.forward-of-ap2.ensures in
+    let fore = rw d.span_of_dm.ensures at c.forward_of_ap-fore.ensures in
     λ i. record {
       enclosed = true;
       quarterdeck = false;
-      aft = record { 0 = a.forward-of-ap.ensures i };
+      aft = record { 0 = a.forward_of_ap-aft.ensures i };
       fore = record { 0 = fore i };
       height = a.before.args.height;
       breadth = record { 0 = 0 };

@@ -12,7 +12,7 @@ unfolding room_of
 room_of_spec =
     tie.close
     (tie.spec
-    (λ c. let x = c.before.before.before.args.x in sym (pick_true (eqb x.n 0) _ _ (eq-eqb x.n 0 c.before.if1.true)))
+    (λ c. let x = c.before.before.before.args.x in sym (pick_true (eqb x.n 0) _ _ (eq-eqb x.n 0 c.before.if-x-eq0.true)))
     (λ c. search rules)
     (λ c κs. search rules)
     (λ c κs. search rules)
@@ -20,4 +20,4 @@ room_of_spec =
     let a = c.before in
     let e = a.before.before.before in
     let x = e.before.before.args.x in
-    c.between.ensures ∙ rw a.forward-of-ap.ensures (sym (pick_false (eqb x.n 0) _ _ (ne_eqb x.n 0 e.if1.false)))))
+    c.between.ensures ∙ rw a.forward_of_ap-ap.ensures (sym (pick_false (eqb x.n 0) _ _ (ne_eqb x.n 0 e.if-x-eq0.false)))))

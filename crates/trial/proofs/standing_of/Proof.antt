@@ -25,9 +25,9 @@ standing_of_spec =
     (λ c κs. search rules)
     (λ c κs. search rules)
     (λ c κs. search rules)
-    (λ c κs. subst (λ (h : House). h.height.0 ≤ 8191) (sym c.poop-house.ensures) c.before.before.before.before.requires.3)
+    (λ c κs. subst (λ (h : House). h.height.0 ≤ 8191) (sym c.poop_house.ensures) c.before.before.before.before.requires.3)
     (λ c κs. search rules)
-    (λ c κs. ap (λ (h : Hull). h.basis.floor) c.before.before.before.before.hull-of.ensures.0)
+    (λ c κs. ap (λ (h : Hull). h.basis.floor) c.before.before.before.before.hull_of-hull.ensures.0)
     (λ c.
     let r = c.before in
     let o = r.before in
@@ -35,15 +35,15 @@ standing_of_spec =
     let h = d.before in
     let s = h.before.before in
     let a = s.args in
-    let ratio = o.height-ratio.ensures.1.0 ∙ ap (ratio_of a.x.length.0) o.before.poop-house.ensures in
+    let ratio = o.height_ratio-ratio.ensures.1.0 ∙ ap (ratio_of a.x.length.0) o.before.poop_house.ensures in
     let e : _ ≡ standing_of a.x a.height.0 a.wish =
     λ i. record {
-      hull = h.hull-of.ensures.0 i;
+      hull = h.hull_of-hull.ensures.0 i;
       deck = d.deck_of_lem.ensures.0 i;
       ratio = ratio i;
-      room = record { 0 = r.room_of.ensures i };
-      particulars = c.particulars-of.ensures i;
+      room = record { 0 = r.room_of-room.ensures i };
+      particulars = c.particulars_of-particulars.ensures i;
       height = a.height;
       wish = a.wish;
     } in
-    (e, rw e (fair_standing a.x s.requires.0 s.requires.1 (eight s) a.height.0 a.wish s.requires.2 s.requires.3 (rw h.hull-of.ensures.0 at h.hull-of.ensures.1)))))
+    (e, rw e (fair_standing a.x s.requires.0 s.requires.1 (eight s) a.height.0 a.wish s.requires.2 s.requires.3 (rw h.hull_of-hull.ensures.0 at h.hull_of-hull.ensures.1)))))

@@ -13,20 +13,14 @@ of_record_spec =
     (λ c κs. search rules)
     (λ c. search rules)
     (λ c κs.
-    let a = c.before in
-    let r = a.before.before in
-    let s = r.before.before.args.s.now in
-    sound_read s r.read-a.result.ship (read_as s r.read-a.result r.read-a.ensures a.enum_told-1.given.1))
+    let s = c.args.s.now in
+    sound_read s c.read-a.result.ship (read_as s c.read-a.result c.read-a.ensures c.in-Accepted.is))
     (λ c. search rules)
     (λ c.
-    let a = c.before.before in
-    let r = a.before.before in
-    let s = r.before.before.args.s.now in
-    let e = c.of_ship.ensures.0 ∙ sym (answer_read s r.read-a.result.ship (read_as s r.read-a.result r.read-a.ensures a.enum_told-1.given.1)) in
+    let s = c.args.s.now in
+    let e = c.of_ship.ensures.0 ∙ sym (answer_read s c.read-a.result.ship (read_as s c.read-a.result c.read-a.ensures c.in-Accepted.is)) in
     (e, bounded_in s c.of_ship.result e))
     (λ c.
-    let v = c.before in
-    let r = v.before.before in
-    let s = r.before.before.args.s.now in
-    let n = v.v-1.given.0.0 in
-    (sym (answer_refused s n (read_refused s r.read-a.result r.read-a.ensures n v.v-1.given.1)), tt)))
+    let s = c.args.s.now in
+    let n = c.in-Refused.r in
+    (sym (answer_refused s n (read_refused s c.read-a.result c.read-a.ensures n c.in-Refused.is)), tt)))

@@ -1,9 +1,13 @@
 -- The mark of hull and deck is the ship's, and what follows from it is its sheet; beside it stand the timber marks that are asked for.
-use Prim.Native.Nat.{◌≤◌}
+use Prim.Native.Nat.{ℕ, ◌≤◌}
 use mathlib.Core.Path.{◌≡◌, sym, ap, ap₂, subst, ◌∙◌}
 use borrow.Author.Rules.{rules}
 use Rattle.ship.specs.declared.Ship.{Ship}
+use Rattle.ship.specs.Vessel.{houses_of}
 use Rattle.mark.specs.declared.Marks.{Marks}
+use Rattle.mark.specs.declared.Particulars.{Particulars}
+use Rattle.deck.specs.declared.Deck.{Deck}
+use Rattle.deck.specs.Deck.{deck_of}
 use Rattle.mark.specs.declared.Answer.TheVariants.{Given}
 use Rattle.mark.specs.Others.{sheet, sheet_at}
 use Rattle.mark.proofs.Given.{given_below, six_small}
@@ -20,24 +24,11 @@ use Rattle.marks.proofs.Demand.{bounded}
 use Rattle.marks.proofs.of_ship.Statement.{statement}
 use Rattle.marks.proofs.of_ship.Tie as tie
 
-ship_at : tie.After-follow-a → Ship
-ship_at f = f.before.before.before.before.before.before.args.x
-
 -- the ordinary answer, by its parts
-ordinary : (f : tie.After-follow-a) → sheet f.follow-a.result ≡ sheet_for (ship_at f)
-unfolding sheet_for ship_at
-ordinary f =
-    let p = f.before in
-    let m = p.before in
-    let d = m.before in
-    let h = d.before in
-    let s = h.before.before in
-    let x = s.args.x in
-    let summer : m.summer_on-s.result ≡ summer_of x = m.summer_on-s.ensures ∙ ap₂ summer_on h.hull_of-h.ensures.0 d.deck_of_lem.ensures.0 ∙ summer_parts x s.requires.good.houses in
-    f.follow-a.ensures ∙ ap₂ sheet_at p.particulars_of.ensures summer
-
-given : (a : tie.In-Given-2) → sheet (Given a.a-1.given.0.0) ≡ sheet_for (ship_at a.before.before)
-given a = ap sheet (sym a.a-1.given.1) ∙ ordinary a.before.before
+ordinary : (x : Ship) → Sound x → {h : Hull} {d : Deck} {p : Particulars} {s : ℕ} → s ≡ summer_on h d → h ≡ hull_of x → d ≡ deck_of x.length.0 (houses_of x) → p ≡ particulars_of x
+    → sheet_at p s ≡ sheet_for x
+unfolding sheet_for
+ordinary x k s h d p = ap₂ sheet_at p (s ∙ ap₂ summer_on h d ∙ summer_parts x k.good.houses)
 
 -- W has room
 small : (x : Ship) → Sound x → (m : Marks) → sheet (Given m) ≡ sheet_for x → m.w ≤ 120000
@@ -48,47 +39,38 @@ small x k m e =
     subst (λ (n : Marks). n.w ≤ 120000) (sym g.0) (six_small (particulars_of x) (summer_of x) g.1 f.1 f.0).2
 
 pub of_ship_spec : {M : Type 1} → statement M
-unfolding hull_of ship_at
+unfolding hull_of
 of_ship_spec =
     tie.close
     (tie.spec
     (λ c κs. search rules)
     (λ c κs. search rules)
-    (λ c κs. (c.before.hull_of-h.ensures.1, rw c.before.hull_of-h.ensures.0 c.deck_of_lem.ensures.1))
-    (λ c κs. ap (λ (h : Hull). h.basis.floor) c.before.before.hull_of-h.ensures.0)
-    (λ c κs.
-    let d = c.before.before in
-    let s = d.before.before.before in
-    rw c.particulars_of.ensures (fair_particulars s.args.x s.requires))
+    (λ c κs. (c.hull_of-h.ensures.1, rw c.hull_of-h.ensures.0 c.deck_of-d.ensures.1))
+    (λ c κs. ap (λ (h : Hull). h.basis.floor) c.hull_of-h.ensures.0)
+    (λ c κs. rw c.particulars_of.ensures (fair_particulars c.args.x c.requires))
     (λ c. search rules)
     (λ c κs.
-    let f = c.before.before.before.before in
-    let d = f.before.before.before in
-    let h = d.before in
-    let s = h.before.before in
-    let x = s.args.x in (
-      (s.requires, h.hull_of-h.ensures.0, d.deck_of_lem.ensures.0, small x s.requires _ (given c.before.before)),
-      (h.hull_of-h.ensures.1, rw h.hull_of-h.ensures.0 d.deck_of_lem.ensures.1),
+    let x = c.args.x in
+    let e = c.in-Given.ensures ∙ ordinary x c.requires c.summer_on-s.ensures c.hull_of-h.ensures.0 c.deck_of-d.ensures.0 c.particulars_of.ensures in (
+      (c.requires, c.hull_of-h.ensures.0, c.deck_of-d.ensures.0, small x c.requires c.in-Given.m e),
+      (c.hull_of-h.ensures.1, rw c.hull_of-h.ensures.0 c.deck_of-d.ensures.1),
     ))
     (λ c.
-    let a = c.before.before.before in
-    let f = a.before.before in
-    let x = ship_at f in
-    let m = a.a-1.given.0.0 in
+    let x = c.args.x in
+    let m = c.in-Given.m in
     let t = c.timber_marks.result in
-    let e = with_timber x m t (given a) c.before.if-x.true c.timber_marks.ensures in
-    (e, bounded x f.before.before.before.before.before.before.requires (Whole.WithTimber m t) e))
+    let g = c.in-Given.ensures ∙ ordinary x c.requires c.summer_on-s.ensures c.hull_of-h.ensures.0 c.deck_of-d.ensures.0 c.particulars_of.ensures in
+    let e = with_timber x m t g c.if-x.true c.timber_marks.ensures in
+    (e, bounded x c.requires (Whole.WithTimber m t) e))
     (λ c. search rules)
     (λ c.
-    let a = c.before.before in
-    let f = a.before.before in
-    let x = ship_at f in
-    let m = a.a-1.given.0.0 in
-    let e = without_timber x m (given a) c.if-x.false in
-    (e, bounded x f.before.before.before.before.before.before.requires (Whole.Given m) e))
+    let x = c.args.x in
+    let m = c.in-Given.m in
+    let g = c.in-Given.ensures ∙ ordinary x c.requires c.summer_on-s.ensures c.hull_of-h.ensures.0 c.deck_of-d.ensures.0 c.particulars_of.ensures in
+    let e = without_timber x m g c.if-x.false in
+    (e, bounded x c.requires (Whole.Given m) e))
     (λ c.
-    let a = c.before in
-    let f = a.before.before in
-    let x = ship_at f in
-    let e = with_refusal x a.a-in-Refused-1.given.0.0 (ap sheet (sym a.a-in-Refused-1.given.1) ∙ ordinary f) in
-    (e, tt)))
+    let x = c.args.x in
+    let r = c.in-Refused.r in
+    let e = with_refusal x r (c.in-Refused.ensures ∙ ordinary x c.requires c.summer_on-s.ensures c.hull_of-h.ensures.0 c.deck_of-d.ensures.0 c.particulars_of.ensures) in
+    (e, bounded x c.requires (Whole.Refused r) e)))

@@ -40,12 +40,5 @@ marked_spec =
     (λ c κs. let f = c.requires in (f.floor, f.depth, f.displacement))
     (λ c. search rules)
     (λ c. search rules)
-    (λ c.
-    let o = c.before.before.before in
-    let f = o.before.before in
-    let a = f.before.args in
-    told (Given o.a-1.given.0.0) a.q.particulars a.s a.q.wish (sym (ap sheet o.a-1.given.1) ∙ f.follow-a.ensures))
-    (λ c.
-    let f = c.before.before in
-    let a = f.before.args in
-    told (Refused c.enum_told-1.given.0.0) a.q.particulars a.s a.q.wish (sym (ap sheet c.enum_told-1.given.1) ∙ f.follow-a.ensures)))
+    (λ c. told (Given c.in-Given.m) c.args.q.particulars c.args.s c.args.q.wish c.in-Given.ensures)
+    (λ c. told (Refused c.in-Refused.field-0) c.args.q.particulars c.args.s c.args.q.wish c.in-Refused.ensures))

@@ -1,7 +1,7 @@
 -- Each field is what the contract of its own call says.
 use Prim.Native.Nat.{◌≤◌}
 use mathlib.Core.Path.{◌≡◌, sym, ap, ◌∙◌, subst}
-use lib.ListN.{length, length-map}
+use lib.ListN.{length}
 use borrow.Author.Rules.{rules}
 use Rattle.ship.specs.declared.House.{House}
 use Rattle.effective.specs.Unrounded.{ratio_of}
@@ -15,7 +15,7 @@ use Rattle.trial.proofs.standing_of.Tie as tie
 
 -- a ship has eight places
 eight : (s : tie.Start) → length s.args.x.houses ≡ 8
-eight s = simp length-map at s.well-formed.0.1.1.1.1.1.1.1.1.1.1.1.1.1.0.1.0.1
+eight s = search rules
 
 pub standing_of_spec : {M : Type 1} → statement M
 unfolding standing_of hull_of poop_house
@@ -39,7 +39,7 @@ standing_of_spec =
     let e : _ ≡ standing_of a.x a.height.0 a.wish =
     λ i. record {
       hull = h.hull_of-hull.ensures.0 i;
-      deck = d.deck_of_lem.ensures.0 i;
+      deck = d.deck_of-deck.ensures.0 i;
       ratio = ratio i;
       room = record { 0 = r.room_of-room.ensures i };
       particulars = c.particulars_of-particulars.ensures i;

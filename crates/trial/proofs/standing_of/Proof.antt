@@ -13,10 +13,6 @@ use Rattle.trial.proofs.Trial.{fair_standing}
 use Rattle.trial.proofs.standing_of.Statement.{statement}
 use Rattle.trial.proofs.standing_of.Tie as tie
 
--- a ship has eight places
-eight : (s : tie.Start) → length s.args.x.houses ≡ 8
-eight s = search rules
-
 pub standing_of_spec : {M : Type 1} → statement M
 unfolding standing_of hull_of poop_house
 standing_of_spec =
@@ -29,21 +25,17 @@ standing_of_spec =
     (λ c κs. search rules)
     (λ c κs. ap (λ (h : Hull). h.basis.floor) c.before.before.before.before.hull_of-hull.ensures.0)
     (λ c.
-    let r = c.before in
-    let o = r.before in
-    let d = o.before.before in
-    let h = d.before in
-    let s = h.before.before in
-    let a = s.args in
-    let ratio = o.height_ratio-ratio.ensures.1.0 ∙ ap (ratio_of a.x.length.0) o.before.poop_house.ensures in
+    let a = c.args in
+    let eight : length a.x.houses ≡ 8 = search rules in
+    let ratio = c.height_ratio-ratio.ensures.1.0 ∙ ap (ratio_of a.x.length.0) c.poop_house.ensures in
     let e : _ ≡ standing_of a.x a.height.0 a.wish =
     λ i. record {
-      hull = h.hull_of-hull.ensures.0 i;
-      deck = d.deck_of-deck.ensures.0 i;
+      hull = c.hull_of-hull.ensures.0 i;
+      deck = c.deck_of-deck.ensures.0 i;
       ratio = ratio i;
-      room = record { 0 = r.room_of-room.ensures i };
+      room = record { 0 = c.room_of-room.ensures i };
       particulars = c.particulars_of-particulars.ensures i;
       height = a.height;
       wish = a.wish;
     } in
-    (e, rw e (fair_standing a.x s.requires.0 s.requires.1 (eight s) a.height.0 a.wish s.requires.2 s.requires.3 (rw h.hull_of-hull.ensures.0 at h.hull_of-hull.ensures.1)))))
+    (e, rw e (fair_standing a.x c.requires.0 c.requires.1 eight a.height.0 a.wish c.requires.2 c.requires.3 (rw c.hull_of-hull.ensures.0 at c.hull_of-hull.ensures.1)))))

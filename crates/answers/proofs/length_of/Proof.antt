@@ -12,8 +12,8 @@ use Rattle.answers.proofs.length_of.Statement.{statement}
 use Rattle.answers.proofs.length_of.Tie as tie
 
 -- an accepted ship has at most eight houses
-few : (c : tie.After-enum-told) → c.before.before.args.x.n ≤ 8
-few c = c.before.before.requires (ap (λ (v : Verdict). (paper v).number) c.enum_told.given.1)
+few : (c : tie.In-Accepted) → c.args.x.n ≤ 8
+few c = c.requires (ap (λ (v : Verdict). (paper v).number) c.in-Accepted.is)
 
 pub length_of_spec : {M : Type 1} → statement M
 unfolding pick
@@ -24,10 +24,7 @@ length_of_spec =
     (λ c κs. few c)
     (λ c κs. few c.before)
     (λ c. search rules)
+    (λ c. rw c.in-Accepted.is (c.record_length.ensures.0 ∙ ap (λ (w : ℕ). record_length w c.args.x.n) c.lowest_for.ensures))
     (λ c.
-    let v = c.before in
-    let t = v.before in
-    rw t.enum_told.given.1 (c.record-length.ensures.0 ∙ ap (λ (w : ℕ). record_length w t.before.before.args.x.n) v.lowest-for.ensures))
-    (λ c.
-    let r = c.enum-told2.given.0.0 in
-    rw (c.enum-told2.given.1, ne_eqb (number_of r) 0 (λ z. omega (arith, number_above_0 r))) refl))
+    let r = c.in-Refused.field-0 in
+    rw (c.in-Refused.is, ne_eqb (number_of r) 0 (λ z. omega (arith, number_above_0 r))) refl))

@@ -40,20 +40,20 @@ marked_spec =
     let m = s.before.args.m in
     let l = s.before.args.l in
     let p = s.before.requires in
-    let o = k.struct_told.given in
-    let u = c.struct-told2.given in
+    let o = k.struct_told-1.given in
+    let u = c.struct_told-2-1.given in
     λ i. record {
-      verdict = n.nothing.ensures i;
-      s = back m.s p.0.s _ s.with-sign.ensures i;
-      t = back m.t p.0.t _ t.with-sign2.ensures i;
-      w = back m.w p.0.w _ w.with-sign3.ensures i;
-      wna = back m.wna p.0.wna _ d.with-sign4.ensures i;
+      verdict = n.nothing-verdict.ensures i;
+      s = back m.s p.0.s _ s.with_sign-s.ensures i;
+      t = back m.t p.0.t _ t.with_sign-t.ensures i;
+      w = back m.w p.0.w _ w.with_sign-w.ensures i;
+      wna = back m.wna p.0.wna _ d.with_sign-wna.ensures i;
       f = held m.f (record { sfits = o.1.1.1.1.0.1 }) i;
       tf = held m.tf (record { sfits = o.1.1.1.1.1.0.1 }) i;
       ls = held l.ls (record { sfits = u.0.1 }) i;
       lt = held l.lt (record { sfits = u.1.0.1 }) i;
       lw = held l.lw (record { sfits = u.1.1.0.1 }) i;
-      lwna = back l.lwna p.1 _ a.with-sign5.ensures i;
+      lwna = back l.lwna p.1 _ a.with_sign-lwna.ensures i;
       lf = held l.lf (record { sfits = u.1.1.1.1.0.1 }) i;
       ltf = held l.ltf (record { sfits = u.1.1.1.1.1.0.1 }) i;
     }))

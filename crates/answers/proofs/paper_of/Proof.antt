@@ -12,5 +12,5 @@ paper_of_spec =
     (λ c κs. search rules)
     (λ c. search rules)
     (λ c κs. search rules)
-    (λ c. c.nothing.ensures ∙ sym (ap paper c.before.enum_told.given.1))
-    (λ c. c.told.ensures ∙ sym (ap paper c.before.before.v.given.1)))
+    (λ c. c.nothing.ensures ∙ sym (ap paper c.before.in-Accepted.is))
+    (λ c. c.told.ensures ∙ sym (ap paper c.before.in-Refused.is)))

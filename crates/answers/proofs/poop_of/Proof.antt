@@ -14,9 +14,5 @@ poop_of_spec =
     (λ c κs. search rules)
     (λ c. search rules)
     (λ c κs. search rules)
-    (λ c.
-    let a = c.before.before in
-    (λ i. record { verdict = c.nothing.ensures i; decimetres = a.a.given.0.0 }) ∙ ap from_reply (sym (ap reply a.a.given.1)))
-    (λ c.
-    let a = c.before.before in
-    (λ i. record { verdict = c.told.ensures i; decimetres = 0 }) ∙ ap from_reply (sym (ap reply a.a2.given.1))))
+    (λ c. (λ i. record { verdict = c.nothing.ensures i; decimetres = c.in-Poop.k }) ∙ ap from_reply (sym (ap reply c.in-Poop.is)))
+    (λ c. (λ i. record { verdict = c.told.ensures i; decimetres = 0 }) ∙ ap from_reply (sym (ap reply c.in-Refused.is))))

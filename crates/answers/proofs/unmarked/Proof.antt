@@ -13,7 +13,7 @@ unmarked_spec =
     (λ c κs. search rules)
     (λ c.
     λ i. record {
-      verdict = c.told.ensures i;
+      verdict = c.told-verdict.ensures i;
       s = pos 0;
       t = pos 0;
       w = pos 0;

@@ -12,4 +12,4 @@ no_room_spec =
     (λ c κs. search rules)
     (λ c.
     let b = c.before in
-    rw (b.is-at-or-abaft.ensures, b.before.before.forward-of-ap.ensures) refl))
+    rw (b.is_at_or_abaft.ensures, b.before.before.forward_of_ap-ap.ensures) refl))

@@ -13,21 +13,15 @@ of_record_spec =
     (λ c κs. search rules)
     (λ c. search rules)
     (λ c κs.
-    let t = c.before in
-    let r = t.before.before in
-    let s = r.before.before.args.s.now in
-    sound_read s r.read.result.ship (read_as s r.read.result r.read.ensures t.enum_told.given.1))
+    let s = c.args.s.now in
+    sound_read s c.read-a.result.ship (read_as s c.read-a.result c.read-a.ensures c.in-Accepted.is))
     (λ c. search rules)
     (λ c.
-    let t = c.before.before in
-    let r = t.before.before in
-    let a = r.before.before.args in
+    let a = c.args in
     let s = a.s.now in
-    c.of-ship.ensures ∙ sym (reply_read a.height a.wish s r.read.result.ship (read_as s r.read.result r.read.ensures t.enum_told.given.1)))
+    c.of_ship.ensures ∙ sym (reply_read a.height a.wish s c.read-a.result.ship (read_as s c.read-a.result c.read-a.ensures c.in-Accepted.is)))
     (λ c.
-    let v = c.before in
-    let r = v.before.before in
-    let a = r.before.before.args in
+    let a = c.args in
     let s = a.s.now in
-    let n = v.v.given.0.0 in
-    sym (reply_refused a.height a.wish s n (read_refused s r.read.result r.read.ensures n v.v.given.1))))
+    let n = c.in-Refused.r in
+    sym (reply_refused a.height a.wish s n (read_refused s c.read-a.result c.read-a.ensures n c.in-Refused.is))))

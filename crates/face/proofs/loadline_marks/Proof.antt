@@ -5,6 +5,7 @@ use borrow.Author.Rules.{rules}
 use Rattle.ship.specs.Refusals.{number_of}
 use Rattle.ship.proofs.OneToOne.{number_above_0}
 use Rattle.record.specs.Layout.{ship_in}
+use Rattle.mark.specs.declared.Marks.{Marks}
 use Rattle.mark.specs.Summer.{Holds}
 use Rattle.timber.specs.declared.TimberMarks.{TimberMarks}
 use Rattle.timber.specs.declared.Answer.{Answer}
@@ -20,20 +21,10 @@ use Rattle.face.proofs.Room.{small_in, small_timber}
 use Rattle.face.proofs.loadline_marks.Statement.{statement}
 use Rattle.face.proofs.loadline_marks.Tie as tie
 
--- what the call gave, in each arm
-given : (c : tie.After-a) → let r = c.before.before in sheet (Given c.a.given.0.0) ≡ answer_in r.before.before.args.bytes.now
-given c = sym (ap sheet c.a.given.1) ∙ c.before.before.of-record.ensures.0
-
-timbered : (c : tie.After-a2) → let r = c.before.before in sheet (WithTimber c.a2.given.0.0 c.a2.given.0.1.0) ≡ answer_in r.before.before.args.bytes.now
-timbered c = sym (ap sheet c.a2.given.1) ∙ c.before.before.of-record.ensures.0
-
-refused : (c : tie.After-a3) → let r = c.before.before in sheet (Refused c.a3.given.0.0) ≡ answer_in r.before.before.args.bytes.now
-refused c = sym (ap sheet c.a3.given.1) ∙ c.before.before.of-record.ensures.0
-
 -- no timber marks are zeros in C
-as_zeros : (c : tie.After-a) (t : TimberMarks) → t ≡ no_timber → let m = c.a.given.0.0 in from_sheet (sheet (WithTimber m t)) ≡ from_sheet (sheet (Given m))
+as_zeros : (m : Marks) (t : TimberMarks) → t ≡ no_timber → from_sheet (sheet (WithTimber m t)) ≡ from_sheet (sheet (Given m))
 unfolding from_sheet
-as_zeros c t e = ap (λ (z : TimberMarks). from_sheet (sheet (WithTimber c.a.given.0.0 z))) e
+as_zeros m t e = ap (λ (z : TimberMarks). from_sheet (sheet (WithTimber m z))) e
 
 pub loadline_marks_spec : {M : Type 1} → statement M
 unfolding from_sheet answer_in sheet_with no_timber
@@ -43,37 +34,28 @@ loadline_marks_spec =
     (λ c κs. search rules)
     (λ c. search rules)
     (λ c κs. search rules)
-    (λ c κs.
-    let a = c.before.before in
-    let r = a.before.before in (
-      small_in r.before.before.args.bytes.now a.a.given.0.0 (ap (λ (z : Sheet). z.ordinary) (given a)),
+    (λ c κs. (
+      small_in c.args.bytes.now c.in-Given.m (ap (λ (z : Sheet). z.ordinary) c.in-Given.ensures.0),
       rw c.none.ensures (omega arith),
     ))
     (λ c. search rules)
-    (λ c κs.
-    let a = c.before in
-    let r = a.before.before in
-    small_timber r.before.before.args.bytes.now a.a2.given.0.0 a.a2.given.0.1.0 (timbered a))
+    (λ c κs. small_timber c.args.bytes.now c.in-WithTimber.m c.in-WithTimber.t c.in-WithTimber.ensures.0)
     (λ c. search rules)
     (λ c κs. search rules)
     (λ c.
-    let n = c.before in
-    let a = n.before.before in
-    let r = a.before.before in
-    let s = r.before.before.args.bytes.now in
-    let h : Holds a.a.given.0.0.s (exact_summer_of (ship_in s)) = subst (λ (y : Answer). Bounded y (ship_in s)) a.a.given.1 r.of-record.ensures.1 in (
-      c.marked.ensures ∙ as_zeros a n.none.result n.none.ensures ∙ ap from_sheet (given a),
-      λ z. (rw c.marked.ensures h, λ f. absurd (true≢false (sym f ∙ no_flag s a.a.given.0.0 (given a)))),
+    let s = c.args.bytes.now in
+    let m = c.in-Given.m in
+    let h : Holds m.s (exact_summer_of (ship_in s)) = c.in-Given.ensures.1 in (
+      c.marked.ensures ∙ as_zeros m c.none.result c.none.ensures ∙ ap from_sheet c.in-Given.ensures.0,
+      λ z. (rw c.marked.ensures h, λ f. absurd (true≢false (sym f ∙ no_flag s m c.in-Given.ensures.0))),
     ))
     (λ c.
-    let a = c.before.before in
-    let r = a.before.before in
-    let s = r.before.before.args.bytes.now in
-    let h : Bounded (WithTimber a.a2.given.0.0 a.a2.given.0.1.0) (ship_in s) = subst (λ (y : Answer). Bounded y (ship_in s)) a.a2.given.1 r.of-record.ensures.1 in (
-      c.marked2.ensures ∙ ap from_sheet (timbered a),
-      λ z. rw c.marked2.ensures (h.0, λ f g. h.1 g),
+    let s = c.args.bytes.now in
+    let h : Bounded (WithTimber c.in-WithTimber.m c.in-WithTimber.t) (ship_in s) = c.in-WithTimber.ensures.1 in (
+      c.marked-in-WithTimber.ensures ∙ ap from_sheet c.in-WithTimber.ensures.0,
+      λ z. rw c.marked-in-WithTimber.ensures (h.0, λ f g. h.1 g),
     ))
     (λ c.
-    let a = c.before.before in
-    let n : c.unmarked.result.verdict.number ≡ number_of a.a3.given.0.0 = ap (λ (y : MarksAnswer). y.verdict.number) c.unmarked.ensures in
-    (c.unmarked.ensures ∙ ap from_sheet (refused a), λ z. absurd (omega (arith, number_above_0 a.a3.given.0.0)))))
+    let r = c.in-Refused.r in
+    let n : c.unmarked.result.verdict.number ≡ number_of r = ap (λ (y : MarksAnswer). y.verdict.number) c.unmarked.ensures in
+    (c.unmarked.ensures ∙ ap from_sheet c.in-Refused.ensures.0, λ z. absurd (omega (arith, number_above_0 r)))))

@@ -16,9 +16,9 @@ loadline_read_spec =
     (λ c κs. search rules)
     (λ c κs.
     let r = c.before in
-    subst (λ (x : Ship). NearSheer x.sheer × NearHouses x.houses) (sym (ap (λ (a : Reading). a.ship) r.read.ensures)) (near_read r.before.before.args.bytes.now))
+    subst (λ (x : Ship). NearSheer x.sheer × NearHouses x.houses) (sym (ap (λ (a : Reading). a.ship) r.read-a.ensures)) (near_read r.before.before.args.bytes.now))
     (λ c κs. search rules)
     (λ c.
     let f = c.before in
     let r = f.before.before in
-    (λ i. record { verdict = c.paper-of.ensures i; ship = f.of-ship.ensures i }) ∙ ap from_reading r.read.ensures))
+    (λ i. record { verdict = c.paper_of.ensures i; ship = f.of_ship-ship.ensures i }) ∙ ap from_reading r.read-a.ensures))

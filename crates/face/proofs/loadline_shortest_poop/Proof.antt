@@ -10,4 +10,4 @@ loadline_shortest_poop_spec =
     (tie.spec
     (λ c κs. search rules)
     (λ c κs. search rules)
-    (λ c. c.poop-of.ensures ∙ ap from_reply c.before.of-record.ensures))
+    (λ c. c.poop_of.ensures ∙ ap from_reply c.before.of_record-a.ensures))

@@ -2,7 +2,6 @@
 // What must come is in `stdout`, made by `samples marks` of twin/, which shares no code with the crates.
 #![tactic(auto)]
 
-
 fn one(i: usize) {
     let mut buf = [0u8; 128];
     let n = files::named(i, &mut buf);

@@ -1,20 +1,60 @@
 // The files that a program's arguments name. What is printed and read is run and compared, not proved.
 #![tactic(auto)]
 
-ghost use Rattle.io.specs.Counts.{IsPrefixLen};
+ghost use Rattle.files.specs.Counts.{IsPrefixLen};
 
-use libc::STDOUT_FILENO;
+use std::env::FillError;
+use std::io::{Print, Read};
+use std::rt::{Env, Files};
+use std::{fs, str};
 
-// Prints argument i and a colon, reads the file that it names into the buffer, and answers how many bytes came.
-pub fn named(i: usize, buf: &mut [u8]) -> usize
+// How many arguments the program was started with, its own name among them.
+pub fn arg_count(rt: &impl Env) -> usize {
+    for i in 0..usize::MAX {
+        if let Err(FillError::NotPresent) = rt.arg(i, &mut []) {
+            return i;
+        }
+    }
+    usize::MAX
+}
+
+// Puts argument i at the start of the buffer, and answers its length, or 0 where it is missing or longer than the buffer.
+pub fn arg(rt: &impl Env, i: usize, buf: &mut [u8]) -> usize
     ensures { IsPrefixLen result buf.new }
 {
-    let mut path = io::buffer();
-    let length = os::arg(i, &mut path);
-    io::write_all(STDOUT_FILENO, &path[..length]);
-    io::write_all(STDOUT_FILENO, b": ");
-    let fd = os::open_read(&path[..length]);
-    let n = io::read_full(fd, buf);
-    libc::close(fd);
-    n
+    rt.arg(i, buf).unwrap_or(0)
+}
+
+// Reads until the buffer is full, the input ends or a read fails, and answers how many bytes came.
+pub fn read_full(input: &mut impl Read, buf: &mut [u8]) -> usize
+    ensures { IsPrefixLen result buf.new }
+{
+    let mut done = 0;
+    while done < buf.len() {
+        let Ok(n) = input.read(&mut buf[done..]) else {
+            break;
+        };
+        if n == 0 {
+            break;
+        }
+        done += n;
+    }
+    done
+}
+
+// Prints argument i and a colon, reads the file that it names into the buffer, and answers how many bytes came: none, where it cannot be opened.
+pub fn named(rt: &(impl Env + Files + Print), i: usize, buf: &mut [u8]) -> usize
+    ensures { IsPrefixLen result buf.new }
+{
+    let mut path = [0u8; 4096];
+    let length = arg(rt, i, &mut path);
+    let _ = rt.write_all(&path[..length]);
+    let _ = rt.write_all(b": ");
+    let Ok(name) = str::from_utf8(&path[..length]) else {
+        return 0;
+    };
+    let Ok(mut file) = fs::open(rt, name) else {
+        return 0;
+    };
+    read_full(&mut file, buf)
 }

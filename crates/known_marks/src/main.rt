@@ -2,18 +2,15 @@
 // What must come is in `stdout`, made by `samples marks` of twin/, which shares no code with the crates.
 #![tactic(auto)]
 
-fn one(i: usize) {
+fn one(rt: &HostRuntime, i: usize) {
     let mut buf = [0u8; 128];
-    let n = files::named(i, &mut buf);
-    show::answer(marks::of_record(&buf[..n]));
-    show::text(b"\n");
+    let n = files::named(rt, i, &mut buf);
+    show::answer(rt, marks::of_record(&buf[..n]));
+    show::text(rt, b"\n");
 }
 
-fn main() {
-    let n = os::arg_count();
-    let mut i = 1;
-    while i < n {
-        one(i);
-        i += 1;
+fn main(rt: HostRuntime) {
+    for i in 1..files::arg_count(&rt) {
+        one(&rt, i);
     }
 }

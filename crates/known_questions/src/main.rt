@@ -13,25 +13,22 @@ fn ask(s: &[u8]) -> Answer {
     poop::of_record(&s[16..], height, wish)
 }
 
-fn one(i: usize) {
+fn one(rt: &HostRuntime, i: usize) {
     let mut buf = [0u8; 144];
-    let n = files::named(i, &mut buf);
+    let n = files::named(rt, i, &mut buf);
     let a = ask(&buf[..n]);
     match a {
         Answer::Poop(k) => {
-            show::text(b"poop");
-            show::next(k);
+            show::text(rt, b"poop");
+            show::next(rt, k);
         }
-        Answer::Refused(r) => show::refused(r),
+        Answer::Refused(r) => show::refused(rt, r),
     }
-    show::text(b"\n");
+    show::text(rt, b"\n");
 }
 
-fn main() {
-    let n = os::arg_count();
-    let mut i = 1;
-    while i < n {
-        one(i);
-        i += 1;
+fn main(rt: HostRuntime) {
+    for i in 1..files::arg_count(&rt) {
+        one(&rt, i);
     }
 }

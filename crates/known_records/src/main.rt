@@ -37,57 +37,54 @@ fn is_untouched(out: &[u8; 128], e: usize) -> bool {
 }
 
 // Prints the record of a ship, which stands first in `out` with nothing behind it.
-fn print_written(out: &[u8; 128], x: Ship) {
+fn print_written(rt: &HostRuntime, out: &[u8; 128], x: Ship) {
     let t = &out[..];
     if x.n as u64 <= MOST_HOUSES {
         let e = record::record_length(record::lowest_for(x), x.n);
-        show::hex(&t[0..e]);
+        show::hex(rt, &t[0..e]);
         if !is_untouched(out, e) {
-            show::text(b" and more");
+            show::text(rt, b" and more");
         }
     }
 }
 
-fn back(x: Ship, s: &[u8]) {
+fn back(rt: &HostRuntime, x: Ship, s: &[u8]) {
     let mut out = [0xA5u8; 128];
     let v = writer::write(&mut out, x);
     match v {
         Verdict::Accepted => {
             if is_copy(&out, s) {
-                show::text(b" back");
+                show::text(rt, b" back");
             } else {
-                show::text(b" as ");
-                print_written(&out, x);
+                show::text(rt, b" as ");
+                print_written(rt, &out, x);
             }
         }
         Verdict::Refused(r) => {
-            show::text(b" ");
-            show::refused(r);
+            show::text(rt, b" ");
+            show::refused(rt, r);
         }
     }
 }
 
-fn one(i: usize) {
+fn one(rt: &HostRuntime, i: usize) {
     let mut buf = [0u8; 128];
-    let n = files::named(i, &mut buf);
+    let n = files::named(rt, i, &mut buf);
     let a = reader::read(&buf[..n]);
     let v = a.verdict;
     match v {
         Verdict::Accepted => {
             let x = a.ship;
-            show::vessel(x);
-            back(x, &buf[..n]);
+            show::vessel(rt, x);
+            back(rt, x, &buf[..n]);
         }
-        Verdict::Refused(r) => show::refused(r),
+        Verdict::Refused(r) => show::refused(rt, r),
     }
-    show::text(b"\n");
+    show::text(rt, b"\n");
 }
 
-fn main() {
-    let n = os::arg_count();
-    let mut i = 1;
-    while i < n {
-        one(i);
-        i += 1;
+fn main(rt: HostRuntime) {
+    for i in 1..files::arg_count(&rt) {
+        one(&rt, i);
     }
 }

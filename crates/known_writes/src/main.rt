@@ -69,36 +69,33 @@ fn vessel(buf: &[u8; 584]) -> Ship {
     }
 }
 
-fn put(x: Ship, out: &mut [u8]) {
+fn put(rt: &HostRuntime, x: Ship, out: &mut [u8]) {
     let v = writer::write(out, x);
     match v {
-        Verdict::Accepted => show::text(b"written"),
-        Verdict::Refused(r) => show::refused(r),
+        Verdict::Accepted => show::text(rt, b"written"),
+        Verdict::Refused(r) => show::refused(rt, r),
     }
     if 0 < out.len() {
-        show::text(b" ");
-        show::hex(out);
+        show::text(rt, b" ");
+        show::hex(rt, out);
     }
-    show::text(b"\n");
+    show::text(rt, b"\n");
 }
 
-fn one(i: usize) {
+fn one(rt: &HostRuntime, i: usize) {
     let mut buf = [0u8; 584];
-    files::named(i, &mut buf);
+    files::named(rt, i, &mut buf);
     let room = at(&buf, 0) as usize;
     let mut out = [0xA5u8; 128];
     if room <= 128 {
-        put(vessel(&buf), &mut out[0..room]);
+        put(rt, vessel(&buf), &mut out[0..room]);
     } else {
-        show::text(b"a buffer longer than 128\n");
+        show::text(rt, b"a buffer longer than 128\n");
     }
 }
 
-fn main() {
-    let n = os::arg_count();
-    let mut i = 1;
-    while i < n {
-        one(i);
-        i += 1;
+fn main(rt: HostRuntime) {
+    for i in 1..files::arg_count(&rt) {
+        one(&rt, i);
     }
 }

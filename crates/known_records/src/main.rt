@@ -8,8 +8,7 @@ use ship::refusal::Verdict;
 
 // Whether `out` begins with `s`, and is untouched behind it.
 fn is_copy(out: &[u8; 128], s: &[u8]) -> bool {
-    let mut k = 0;
-    while k < 128 {
+    for k in 0..128 {
         if k < s.len() {
             if out[k] != s[k] {
                 return false;
@@ -19,19 +18,16 @@ fn is_copy(out: &[u8; 128], s: &[u8]) -> bool {
                 return false;
             }
         }
-        k += 1;
     }
     true
 }
 
 // Whether `out` is untouched from byte `e` on.
 fn is_untouched(out: &[u8; 128], e: usize) -> bool {
-    let mut k = e;
-    while k < 128 {
+    for k in e..128 {
         if out[k] != 0xA5 {
             return false;
         }
-        k += 1;
     }
     true
 }

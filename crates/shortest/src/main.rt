@@ -27,15 +27,24 @@ fn answer(rt: &HostRuntime, height: u64, wish: u64) {
 
 fn main(rt: HostRuntime) {
     if files::arg_count(&rt) != 3 {
-        show::text(&rt, b"shortest: two arguments are needed, HEIGHT and WISH\n");
+        show::text(
+            &rt,
+            b"shortest: two arguments are needed, HEIGHT and WISH\n",
+        );
         return;
     }
     let Parsed::Number(height) = argument(&rt, 1) else {
-        show::text(&rt, b"shortest: HEIGHT is a whole number of millimetres below 2^64\n");
+        show::text(
+            &rt,
+            b"shortest: HEIGHT is a whole number of millimetres below 2^64\n",
+        );
         return;
     };
     let Parsed::Number(wish) = argument(&rt, 2) else {
-        show::text(&rt, b"shortest: WISH is a whole number of millimetres below 2^64\n");
+        show::text(
+            &rt,
+            b"shortest: WISH is a whole number of millimetres below 2^64\n",
+        );
         return;
     };
     answer(&rt, height, wish);

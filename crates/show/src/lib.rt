@@ -4,8 +4,8 @@
 use mark::Marks;
 use ship::refusal::Refusal;
 use ship::{House, Ship, refusal};
-use timber::{Answer, TimberMarks};
 use std::io::Print;
+use timber::{Answer, TimberMarks};
 use units::{Ordinate, Span, Station};
 
 pub fn text(rt: &impl Print, t: &[u8]) {

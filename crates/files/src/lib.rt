@@ -1,6 +1,8 @@
 // The files that a program's arguments name. What is printed and read is run and compared, not proved.
 #![tactic(auto)]
 
+ghost use Rattle.std.specs.Prelude.{take};
+ghost use Rattle.std.specs.Io.KnownBytes.{Consumes};
 ghost use Rattle.files.specs.Counts.{IsPrefixLen};
 
 use std::env::FillError;
@@ -25,9 +27,10 @@ pub fn arg(rt: &impl Env, i: usize, buf: &mut [u8]) -> usize
     rt.arg(i, buf).unwrap_or(0)
 }
 
-// Reads until the buffer is full, the input ends or a read fails, and answers how many bytes came.
-pub fn read_full(input: &mut impl Read, buf: &mut [u8]) -> usize
-    ensures { IsPrefixLen result buf.new }
+// Reads until the buffer is full, the input ends or a read fails, and answers how many bytes came: the input's next ones, at the start of the buffer.
+pub fn read_full<R: Read>(input: &mut R, buf: &mut [u8]) -> usize
+    ensures in_bounds { IsPrefixLen result buf.new }
+    ensures bytes { Consumes (R.remaining input.old) (R.remaining input.new) (take result buf.new) }
 {
     let mut done = 0;
     while done < buf.len() {

@@ -8,7 +8,7 @@ use native.Mathlib.Omega.{arith}
 use borrow.Author.Tests.{ne_eqb}
 use lib.Dec.{eqb}
 use lib.ListN.{get_or}
-use Rattle.whole.specs.Frac.{Frac, ◌≈f◌, ◌-f◌, ◌*f◌, whole, frac, ceil}
+use Rattle.whole.specs.Frac.{◌≈f◌, ◌-f◌, ◌*f◌, whole, frac, ceil}
 use Rattle.whole.specs.Round.{Within}
 use Rattle.whole.proofs.Climb.{climb}
 use Rattle.whole.proofs.Divide.{ceil_ge, ceil_lt}
@@ -16,7 +16,7 @@ use Rattle.whole.proofs.Round.{near_self, by_ceil}
 use Rattle.tabular.specs.Tabular.{table_a, table_b, covers_add}
 use Rattle.tabular.proofs.Laws.{tabular_a_at_most_b}
 use Rattle.ship.specs.Kinds.{kind_a, kind_b, kind_b60, kind_b100, kind_covers}
-use Rattle.basis.specs.Basis.{Basis, exact_reduced, basis_of}
+use Rattle.basis.specs.Basis.{exact_reduced, basis_of}
 
 -- ---- B less a part of its difference from A, as code works it: what is taken is rounded down
 reduced_quotient : (p a b : ℕ) → p ≤ 100 → a ≤ b → ceil (whole b -f frac p 100 *f (whole b -f whole a)) ≡ b - (b - a) * p / 100

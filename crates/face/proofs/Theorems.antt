@@ -10,7 +10,6 @@ use lib.ListN.{length, take, drop, length-map}
 use Rattle.whole.specs.Pick.{pick}
 use Rattle.bits.specs.Fields.{Bytes}
 use Rattle.ship.specs.declared.Ship.{Ship}
-use Rattle.ship.specs.Vessel.{clean}
 use Rattle.ship.specs.Refusals.{Paper, accepted, refused, first}
 use Rattle.ship.specs.Checks.{ship_lines}
 use Rattle.ship.specs.Good.{Good}

@@ -7,7 +7,6 @@ use lib.IntN.{ℤ}
 use lib.ListN.{length, take, replicate}
 use Rattle.units.specs.declared.Ordinate.{Ordinate}
 use Rattle.units.specs.Datum.{lift, sheer_at, Lifted}
-use Rattle.ship.specs.declared.House.{House}
 use Rattle.ship.specs.Vessel.{no_house, no_ship, house_at, clean}
 use Rattle.ship.specs.Good.{GoodHouse, Good}
 use Rattle.flat.specs.declared.FlatHouse.{FlatHouse}

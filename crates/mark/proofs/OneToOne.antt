@@ -4,7 +4,7 @@ use native.Mathlib.Omega.{arith}
 use lib.Dec.{eqb}
 use Rattle.whole.specs.Pick.{pick}
 use Rattle.ship.specs.declared.refusal.Verdict.TheVariants as Verdicts
-use Rattle.ship.specs.Refusals.{Paper, accepted, number_of}
+use Rattle.ship.specs.Refusals.{Paper, accepted}
 use Rattle.ship.proofs.OneToOne.{one_verdict, number_above_0}
 use Rattle.mark.specs.declared.Marks.{Marks}
 use Rattle.mark.specs.declared.Answer.{Answer}

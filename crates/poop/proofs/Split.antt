@@ -1,5 +1,5 @@
 -- 02 §1 in the question: what has become of refusal 11, and that no length has changed. 18 joins 9 to 13 as what makes a length unfit.
-use Prim.Native.Nat.{ℕ, ◌+◌, ◌*◌, ◌/◌, ◌≤◌}
+use Prim.Native.Nat.{ℕ, ◌+◌, ◌/◌}
 use mathlib.Core.List.{List, [], ◌++◌}
 use mathlib.Core.Bool.{Bool, ◌&&◌}
 use mathlib.Core.Path.{◌≡◌, refl, sym, ap, ◌∙◌}
@@ -9,9 +9,9 @@ use Rattle.whole.specs.Pick.{pick}
 use Rattle.whole.proofs.Pick.{pick_of}
 use Rattle.ship.specs.declared.Ship.{Ship}
 use Rattle.ship.specs.Vessel.{houses_of}
-use Rattle.ship.specs.Refusals.{Paper, Line, first}
+use Rattle.ship.specs.Refusals.{Paper, first}
 use Rattle.ship.specs.Checks.{house_lines, ship_lines}
-use Rattle.ship.proofs.Split.{Plain, joined, house_lines01, ship_lines01, Split, split_lines, same_zero, split_answer}
+use Rattle.ship.proofs.Split.{Plain, house_lines01, ship_lines01, split_lines, same_zero, split_answer}
 use Rattle.record.specs.Layout.{ship_in}
 use Rattle.record.specs.Reading.{frame_lines}
 use Rattle.record.proofs.Split.{SplitOn, split_call}

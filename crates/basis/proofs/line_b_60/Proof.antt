@@ -1,9 +1,7 @@
 -- What is spared is rounded down, as `reduced_code` has it.
-use Prim.Native.Nat.{ℕ, ◌*◌, ◌-◌, ◌/◌, ◌≤◌}
-use mathlib.Core.Path.{◌≡◌, sym, ◌∙◌}
+use mathlib.Core.Path.{sym, ◌∙◌}
 use native.Mathlib.Omega.{arith}
 use borrow.Author.Rules.{rules}
-use Rattle.tabular.specs.Tabular.{table_a, table_b}
 use Rattle.basis.proofs.Laws.{reduced_code}
 use Rattle.basis.proofs.line_b_60.Statement.{statement}
 use Rattle.basis.proofs.line_b_60.Tie as tie

@@ -5,9 +5,8 @@ use native.Mathlib.Omega.{arith}
 use borrow.Author.Rules.{rules}
 use borrow.Author.Tests.{ltb-false}
 use Rattle.ship.specs.declared.Ship.{Ship}
-use Rattle.ship.specs.declared.refusal.Verdict.{Verdict}
 use Rattle.ship.specs.Vessel.{houses_of}
-use Rattle.ship.specs.Refusals.{Paper, paper, first, accepted}
+use Rattle.ship.specs.Refusals.{Paper, first, accepted}
 use Rattle.ship.specs.Checks.{fields_of, field_out, field_lines, house_lines}
 use Rattle.ship.proofs.Lines.{all_pass, first_accepted, first_refused}
 use Rattle.ship.proofs.Accepted.{in_range}

@@ -1,5 +1,5 @@
 use mathlib.Core.Bool.{true≢false}
-use mathlib.Core.Path.{◌≡◌, sym, ap, ◌∙◌, subst}
+use mathlib.Core.Path.{◌≡◌, sym, ap, ◌∙◌}
 use native.Mathlib.Omega.{arith}
 use borrow.Author.Rules.{rules}
 use Rattle.ship.specs.Refusals.{number_of}
@@ -8,8 +8,7 @@ use Rattle.record.specs.Layout.{ship_in}
 use Rattle.mark.specs.declared.Marks.{Marks}
 use Rattle.mark.specs.Summer.{Holds}
 use Rattle.timber.specs.declared.TimberMarks.{TimberMarks}
-use Rattle.timber.specs.declared.Answer.{Answer}
-use Rattle.timber.specs.declared.Answer.TheVariants.{Given, WithTimber, Refused}
+use Rattle.timber.specs.declared.Answer.TheVariants.{Given, WithTimber}
 use Rattle.timber.specs.Timber.{no_timber}
 use Rattle.timber.specs.Answer.{Sheet, sheet, sheet_with}
 use Rattle.steps.specs.Exact.{exact_summer_of}

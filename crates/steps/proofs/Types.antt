@@ -1,5 +1,5 @@
 -- 02 §5, of a ship: the four type B kinds differ in line and floor alone, and the summer marks of ships that differ in type alone stand in the order of their lines.
-use mathlib.Core.Path.{◌≡◌, refl, sym, ap, ap₂, ◌∙◌}
+use mathlib.Core.Path.{◌≡◌, refl, ap, ap₂, ◌∙◌}
 use mathlib.Core.Bool.{true, false}
 use mathlib.Core.List.{List}
 use Prim.Native.Nat.{ℕ, ◌+◌, ◌≤◌}

@@ -1,6 +1,6 @@
 -- The order of the timber marks, for every depth and every LS, the zeros too; LS against the ordinary S; and that the zeros tell where none is given.
 use mathlib.Core.Path.{◌≡◌, refl, sym, subst, ap}
-use mathlib.Core.Bool.{Bool, true, false, true≢false}
+use mathlib.Core.Bool.{Bool, true, false}
 use mathlib.Core.Logic.{◌⊎◌, inl, inr}
 use Prim.Native.Nat.{ℕ, ◌-◌, ◌/◌, ◌≤◌, ◌<◌, max}
 use native.Mathlib.Omega.{arith}

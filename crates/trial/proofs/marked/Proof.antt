@@ -6,7 +6,7 @@ use native.Mathlib.Omega.{arith}
 use lib.Dec.{eqb, leb}
 use borrow.Author.Rules.{rules}
 use borrow.Author.Tests.{ne_eqb}
-use Rattle.ship.specs.Refusals.{Paper, number_of, first}
+use Rattle.ship.specs.Refusals.{number_of, first}
 use Rattle.ship.proofs.OneToOne.{number_above_0}
 use Rattle.mark.specs.declared.Particulars.{Particulars}
 use Rattle.mark.specs.declared.Answer.{Answer}

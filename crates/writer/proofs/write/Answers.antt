@@ -1,5 +1,5 @@
 -- The buffer is as it was, but where a good ship's record was written.
-use Rattle.std.proofs.Common.{◌≡◌, ℕ, Bool, false, length, refl, sym, ap, ◌∙◌, arith}
+use Rattle.std.proofs.Common.{◌≡◌, false, length, refl, sym, ap, ◌∙◌, arith}
 use lib.Dec.{eqb}
 use borrow.Author.Tests.{eqb-true, ne_eqb}
 use Rattle.whole.specs.Pick.{pick}

@@ -6,7 +6,7 @@ ghost use Rattle.std.specs.Prelude.{◌≡◌, ◌*◌, ◌≤◌};
 ghost use Rattle.whole.specs.Frac.{frac, ◌≈f◌};
 ghost use Rattle.houses.specs.Height as Height;
 ghost use Rattle.houses.specs.Effective.{limited_length, breadth_ratio, exact_effective};
-ghost use Rattle.effective.specs.Unrounded.{standard_of, rising as risingFrom, low_ordinary, low_raised, low_height, Sized, ratio_of, FairRatio, breadths_of, FairBreadths, unrounded_of, FairLength};
+ghost use Rattle.effective.specs.Unrounded.{standard_of, rising as rising_from, low_ordinary, low_raised, low_height, Sized, ratio_of, FairRatio, breadths_of, FairBreadths, unrounded_of, FairLength};
 
 use ship::House;
 use units::{Effective, Ratio, Span, Unrounded};
@@ -22,7 +22,7 @@ pub struct Standard {
 // v at L = a, and from there r mm more for every s mm of L.
 fn rising(a: u64, v: u64, r: u64, s: u64, l: u64) -> Standard
     requires { (v ≤ 2300) × (r ≤ 3) × (1 ≤ s) × (s ≤ 250) × (a ≤ l) × (l ≤ 125000) }
-    ensures { result ≡ standard_of (risingFrom a v r s l) }
+    ensures { result ≡ standard_of (rising_from a v r s l) }
 {
     Standard {
         size: v * s + r * (l - a),

@@ -19,11 +19,11 @@ use Rattle.bits.proofs.Cut.{piece_cut}
 -- the head that four words hold, as the reader takes them apart, with its ordinates of sheer: how many bits stand after the type, after n and after the timber
 -- flag, and how many values the type, the flag and the spare can have
 abbrev pub head_cut : ℕ → ℕ → ℕ → ℕ → ℕ → ℕ → ℕ → ℕ → ℕ → List Ordinate → Head
-head_cut after-kind kinds after-count after-timber flags spares a b d o = record {
+head_cut after_kind kinds after_count after_timber flags spares a b d o = record {
   version = a / 2 ^ 60 % 2 ^ 4;
-  kind = a / 2 ^ after-kind % kinds;
-  count = a / 2 ^ after-count % 2 ^ 4;
-  timber = eqb (a / 2 ^ after-timber % flags) 1;
+  kind = a / 2 ^ after_kind % kinds;
+  count = a / 2 ^ after_count % 2 ^ 4;
+  timber = eqb (a / 2 ^ after_timber % flags) 1;
   spare = a / 2 ^ 48 % spares;
   length = record { 0 = a / 2 ^ 28 % 2 ^ 20 };
   depth = record { 0 = a / 2 ^ 12 % 2 ^ 16 };
@@ -66,15 +66,15 @@ pieces : (version a b c d : ℕ)
     → head_of (joined (unpack (first_widths version) a ++ unpack fullness_widths b ++ unpack four_widths c ++ unpack last_widths d)) ≡ head_of_words version a b d (sheer_in c d)
 unfolding unpack piece
 pieces version a b c d =
-    let after-kind : 4 + (timber_bits version + (spare_bits version + 48)) ≡ 52 + spare_bits version + timber_bits version = omega arith in
-    let after-count : timber_bits version + (spare_bits version + 48) ≡ 48 + spare_bits version + timber_bits version = omega arith in
-    let after-timber : spare_bits version + 48 ≡ 48 + spare_bits version = omega arith in
+    let after_kind : 4 + (timber_bits version + (spare_bits version + 48)) ≡ 52 + spare_bits version + timber_bits version = omega arith in
+    let after_count : timber_bits version + (spare_bits version + 48) ≡ 48 + spare_bits version + timber_bits version = omega arith in
+    let after_timber : spare_bits version + 48 ≡ 48 + spare_bits version = omega arith in
     let whole : (n : ℕ) → n / 2 ^ 0 ≡ n = λ n. omega arith in
     λ i. record {
       version = a / 2 ^ after_version version i % 2 ^ 4;
-      kind = a / 2 ^ after-kind i % 2 ^ kind_bits version;
-      count = a / 2 ^ after-count i % 2 ^ 4;
-      timber = eqb (a / 2 ^ after-timber i % 2 ^ timber_bits version) 1;
+      kind = a / 2 ^ after_kind i % 2 ^ kind_bits version;
+      count = a / 2 ^ after_count i % 2 ^ 4;
+      timber = eqb (a / 2 ^ after_timber i % 2 ^ timber_bits version) 1;
       spare = a / 2 ^ 48 % 2 ^ spare_bits version;
       length = record { 0 = a / 2 ^ 28 % 2 ^ 20 };
       depth = record { 0 = a / 2 ^ 12 % 2 ^ 16 };

@@ -140,14 +140,14 @@ downs l = total (λ h. floor (exact_effective l h))
 
 -- what the houses with breadths have, taken apart by where it was before: o in the ordinary houses' sum, r in the raised quarterdeck's, w in houses with breadths.
 -- The lists are those of a kind, after and before
-record Parted (l : ℕ) (ordinaries ordinaries₀ raiseds raiseds₀ setIns setIns₀ : List House) : Type 0 where
+record Parted (l : ℕ) (ordinaries ordinaries₀ raiseds raiseds₀ set_ins set_ins₀ : List House) : Type 0 where
   o : ℕ
   r : ℕ
   w : ℕ
-  parts : downs l setIns ≡ o + r + w
+  parts : downs l set_ins ≡ o + r + w
   ordinary : whole o +f exact_effective_length l ordinaries ≤f exact_effective_length l ordinaries₀
   raised : whole r +f exact_effective_length l raiseds ≤f exact_effective_length l raiseds₀
-  own : w ≤ downs l setIns₀
+  own : w ≤ downs l set_ins₀
 
 abbrev PartedBy : ℕ → List House → List House → Type 0
 PartedBy l gs hs = Parted l (those is_ordinary hs) (those is_ordinary gs) (those is_raised hs) (those is_raised gs) (those is_set_in hs) (those is_set_in gs)

@@ -1,4 +1,4 @@
--- 35, with 02 §2 and §6: effective lengths, in um, added first and rounded once; a house with set_in_lem sides is rounded by itself.
+-- 35, with 02 §2 and §6: effective lengths, in um, added first and rounded once; a house with set-in sides is rounded by itself.
 use Rattle.std.specs.Prelude.{ℕ, ◌+◌, ◌*◌, min, Bool, not, ◌&&◌, List, [], ◌∷◌}
 use Rattle.whole.specs.Pick.{pick}
 use Rattle.whole.specs.Frac.{Frac, whole, frac, ◌+f◌, ◌*f◌, floor}
@@ -11,7 +11,7 @@ use Rattle.houses.specs.Height.{height_ratio}
 unfoldable pub limited_length : ℕ → House → ℕ
 limited_length l h = pick h.quarterdeck (min (1000 * part_of l h) (600 * l)) (1000 * part_of l h)
 
--- set_in_lem sides: the house's breadth over the ship's, both at the middle of the house; 1 for full breadth
+-- set-in sides: the house's breadth over the ship's, both at the middle of the house; 1 for full breadth
 unfoldable pub breadth_ratio : House → Frac
 breadth_ratio h = pick (full_breadth h) (whole 1) (frac h.breadth.0 h.beam.0)
 

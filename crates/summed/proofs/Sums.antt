@@ -99,13 +99,13 @@ own_exact l (h ∷ hs) f = go (full_breadth h) (own_exact l hs f.1)
     go true r = r
     go false r = ap₂ ◌+◌ (floor_of (top_of l h) (bottom_of l h) (bottom_some l h f.0) (unrounded_exact l h f.0)) r
 
-pub not-true : (q : Bool) → not q ≡ true → q ≡ false
-not-true true e = sym e
-not-true false e = refl
+pub not_true : (q : Bool) → not q ≡ true → q ≡ false
+not_true true e = sym e
+not_true false e = refl
 
 -- what the tests say
 are_ordinary : (h : House) → is_ordinary h ≡ true → (full_breadth h ≡ true) × (h.quarterdeck ≡ false)
-are_ordinary h e = let p = (and-eq-true_iff (full_breadth h) (not h.quarterdeck)).0 e in (p.0, not-true h.quarterdeck p.1)
+are_ordinary h e = let p = (and-eq-true_iff (full_breadth h) (not h.quarterdeck)).0 e in (p.0, not_true h.quarterdeck p.1)
 
 are_raised : (h : House) → is_raised h ≡ true → (full_breadth h ≡ true) × (h.quarterdeck ≡ true)
 are_raised h e = (and-eq-true_iff (full_breadth h) h.quarterdeck).0 e

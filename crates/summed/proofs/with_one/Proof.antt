@@ -8,7 +8,7 @@ use borrow.Author.Tests.{not-false}
 use Rattle.whole.specs.Pick.{pick}
 use Rattle.ship.specs.Vessel.{full_breadth}
 use Rattle.summed.specs.Summed.{bottom_in}
-use Rattle.summed.proofs.Sums.{not-true, by_kind}
+use Rattle.summed.proofs.Sums.{not_true, by_kind}
 use Rattle.summed.proofs.with_one.Statement.{statement}
 use Rattle.summed.proofs.with_one.Tie as tie
 
@@ -31,7 +31,7 @@ with_one_spec =
     let b = t.before in
     let a = b.before.before.before.before.args in
     (λ i. record { ordinary = a.s.ordinary; raised = a.s.raised; own = record { 0 = r.rounded.ensures.0 i + a.s.own.0 } })
-    ∙ sym (by_kind a.h a.e a.s (sym b.full_breadth.ensures ∙ not-true _ t.if-not-full_breadth.true-raw) refl))
+    ∙ sym (by_kind a.h a.e a.s (sym b.full_breadth.ensures ∙ not_true _ t.if-not-full_breadth.true-raw) refl))
     (λ c κs.
     let t = c.before in
     let s = t.before.before.before.before.before in

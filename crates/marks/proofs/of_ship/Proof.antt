@@ -1,13 +1,9 @@
 -- The mark of hull and deck is the ship's, and what follows from it is its sheet; beside it stand the timber marks that are asked for.
-use Prim.Native.Nat.{ℕ, ◌≤◌}
+use Prim.Native.Nat.{◌≤◌}
 use mathlib.Core.Path.{◌≡◌, sym, ap, ap₂, subst, ◌∙◌}
 use borrow.Author.Rules.{rules}
 use Rattle.ship.specs.declared.Ship.{Ship}
-use Rattle.ship.specs.Vessel.{houses_of}
 use Rattle.mark.specs.declared.Marks.{Marks}
-use Rattle.mark.specs.declared.Particulars.{Particulars}
-use Rattle.deck.specs.declared.Deck.{Deck}
-use Rattle.deck.specs.Deck.{deck_of}
 use Rattle.mark.specs.declared.Answer.TheVariants.{Given}
 use Rattle.mark.specs.Others.{sheet, sheet_at}
 use Rattle.mark.proofs.Given.{given_below, six_small}
@@ -25,10 +21,11 @@ use Rattle.marks.proofs.of_ship.Statement.{statement}
 use Rattle.marks.proofs.of_ship.Tie as tie
 
 -- the ordinary answer, by its parts
-ordinary : (x : Ship) → Sound x → {h : Hull} {d : Deck} {p : Particulars} {s : ℕ} → s ≡ summer_on h d → h ≡ hull_of x → d ≡ deck_of x.length.0 (houses_of x) → p ≡ particulars_of x
-    → sheet_at p s ≡ sheet_for x
+ordinary : (f : tie.After-follow-a) → sheet_at f.particulars_of.result f.summer_on-s.result ≡ sheet_for f.args.x
 unfolding sheet_for
-ordinary x k s h d p = ap₂ sheet_at p (s ∙ ap₂ summer_on h d ∙ summer_parts x k.good.houses)
+ordinary f =
+    let summer = f.summer_on-s.ensures ∙ ap₂ summer_on f.hull_of-h.ensures.0 f.deck_of-d.ensures.0 ∙ summer_parts f.args.x f.requires.good.houses in
+    ap₂ sheet_at f.particulars_of.ensures summer
 
 -- W has room
 small : (x : Ship) → Sound x → (m : Marks) → sheet (Given m) ≡ sheet_for x → m.w ≤ 120000
@@ -51,7 +48,7 @@ of_ship_spec =
     (λ c. search rules)
     (λ c κs.
     let x = c.args.x in
-    let e = c.in-Given.ensures ∙ ordinary x c.requires c.summer_on-s.ensures c.hull_of-h.ensures.0 c.deck_of-d.ensures.0 c.particulars_of.ensures in (
+    let e = c.in-Given.ensures ∙ ordinary c.before.before in (
       (c.requires, c.hull_of-h.ensures.0, c.deck_of-d.ensures.0, small x c.requires c.in-Given.m e),
       (c.hull_of-h.ensures.1, rw c.hull_of-h.ensures.0 c.deck_of-d.ensures.1),
     ))
@@ -59,18 +56,18 @@ of_ship_spec =
     let x = c.args.x in
     let m = c.in-Given.m in
     let t = c.timber_marks.result in
-    let g = c.in-Given.ensures ∙ ordinary x c.requires c.summer_on-s.ensures c.hull_of-h.ensures.0 c.deck_of-d.ensures.0 c.particulars_of.ensures in
+    let g = c.in-Given.ensures ∙ ordinary c.before.before.before in
     let e = with_timber x m t g c.if-x.true c.timber_marks.ensures in
     (e, bounded x c.requires (Whole.WithTimber m t) e))
     (λ c. search rules)
     (λ c.
     let x = c.args.x in
     let m = c.in-Given.m in
-    let g = c.in-Given.ensures ∙ ordinary x c.requires c.summer_on-s.ensures c.hull_of-h.ensures.0 c.deck_of-d.ensures.0 c.particulars_of.ensures in
+    let g = c.in-Given.ensures ∙ ordinary c.before.before in
     let e = without_timber x m g c.if-x.false in
     (e, bounded x c.requires (Whole.Given m) e))
     (λ c.
     let x = c.args.x in
     let r = c.in-Refused.r in
-    let e = with_refusal x r (c.in-Refused.ensures ∙ ordinary x c.requires c.summer_on-s.ensures c.hull_of-h.ensures.0 c.deck_of-d.ensures.0 c.particulars_of.ensures) in
+    let e = with_refusal x r (c.in-Refused.ensures ∙ ordinary c.before) in
     (e, bounded x c.requires (Whole.Refused r) e)))

@@ -72,6 +72,7 @@ fn bad_quarterdeck(l: Span, h: House) -> bool
 }
 
 // Whether a house breaks a rule; `before` is the fore end of the house before it.
+#[tactic(auto, unfolding(ship::specs::Checks::breaks))]
 pub fn house_breaks(rule: Rule, l: Span, before: Station, h: House) -> bool
     requires { l.0 ≤ 365000 }
     ensures { result ≡ breaks rule l.0 before.0 h }
@@ -80,10 +81,7 @@ pub fn house_breaks(rule: Rule, l: Span, before: Station, h: House) -> bool
         Rule::EndsAndHeight => bad_ends(l, h),
         Rule::SetInSides => bad_breadths(h),
         Rule::RaisedQuarterdeck => bad_quarterdeck(l, h),
-        Rule::Follows => {
-            let aft = h.aft;
-            units::is_abaft(aft, before)
-        }
+        Rule::Follows => h.aft < before,
     }
 }
 
@@ -100,16 +98,13 @@ pub fn breaks_any(l: Span, before: Station, h: House) -> bool
 }
 
 // Why the house at place k is refused if it begins abaft the fore end of the one before it: by 18 if abaft its aft end too, which sorting can mend, else by 11.
+#[tactic(auto, unfolding(whole::specs::Pick::pick, ship::specs::Refusals::first))]
 pub fn misplaced(k: usize, before: House, h: House) -> Refusal
     ensures { refused_as result ≡ first (order_lines_at k true before h) }
 {
-    let aft = h.aft;
-    let begins = before.aft;
-    if units::is_abaft(aft, begins) {
+    if h.aft < before.aft {
         return Refusal::OutOfOrder(k);
     }
-    let fore = h.fore;
-    let ends = before.fore;
-    let end = units::aftermost(ends, fore);
-    Refusal::Overlap(k, units::between(aft, end))
+    let end = before.fore.min(h.fore);
+    Refusal::Overlap(k, units::between(h.aft, end))
 }

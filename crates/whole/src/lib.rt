@@ -6,11 +6,12 @@ ghost use Rattle.whole.specs.Divide.{ceil_div};
 ghost use Rattle.whole.specs.Sign.{negative};
 
 // a * b / d, rounded up.
+#[tactic(auto, using(crate::proofs::Divide::ceil_of))]
 pub fn mul_div_up(a: u64, b: u64, d: u64) -> u64
     requires { (0 < d) × (a * b + d ≤ 2 ^ 64) }
     ensures { result ≡ ceil_div (a * b) d }
 {
-    (a * b + (d - 1)) / d
+    (a * b).div_ceil(d)
 }
 
 // a * b / d, rounded down.
@@ -22,32 +23,33 @@ pub fn mul_div_down(a: u64, b: u64, d: u64) -> u64
 }
 
 // a / d, rounded up.
+#[tactic(auto, using(crate::proofs::Divide::ceil_of))]
 pub fn div_up(a: u64, d: u64) -> u64
     requires { (0 < d) × (a + d ≤ 2 ^ 64) }
     ensures { result ≡ ceil_div a d }
 {
-    (a + (d - 1)) / d
+    a.div_ceil(d)
 }
 
 // The lesser of the two.
 pub fn lesser(a: u64, b: u64) -> u64
     ensures { result ≡ min a b }
 {
-    if a < b { a } else { b }
+    a.min(b)
 }
 
 // The greater of the two.
 pub fn greater(a: u64, b: u64) -> u64
     ensures { result ≡ max a b }
 {
-    if a < b { b } else { a }
+    a.max(b)
 }
 
 // a - b, and 0 where b is the greater.
 pub fn less(a: u64, b: u64) -> u64
     ensures { result ≡ a - b }
 {
-    if b < a { a - b } else { 0 }
+    a.saturating_sub(b)
 }
 
 // a - b with its sign, of numbers whose difference fits an i64 with ease.
@@ -78,9 +80,5 @@ pub fn size(n: i64) -> u64
     ensures value { result ≡ nat_abs n }
     ensures upper_bound { result ≤ 2 ^ 63 }
 {
-    if n < 0 {
-        ((-1 - n) as u64) + 1
-    } else {
-        n as u64
-    }
+    n.unsigned_abs()
 }

@@ -1,12 +1,10 @@
 -- A list's deck: house by house, within its limits, and empty where the list is.
-use Prim.Native.Nat.{ℕ, ◌+◌, ◌≤◌}
+use Prim.Native.Nat.{ℕ, ◌≤◌}
 use mathlib.Core.Bool.{false}
-use mathlib.Core.List.{List, [], ◌∷◌}
+use mathlib.Core.List.{List, [], ◌∷◌, ◌++◌}
 use mathlib.Core.Path.{◌≡◌, refl}
 use native.Mathlib.Omega.{arith}
 use native.Mathlib.Nat.{zero-mul, zero-min}
-use lib.ListN.{drop, length-drop}
-use lib.Seq.{get_or-drop}
 use Rattle.whole.proofs.Pick.{pick_of}
 use Rattle.ship.specs.declared.House.{House}
 use Rattle.ship.specs.Vessel.{no_house}
@@ -15,6 +13,7 @@ use Rattle.houses.specs.Length.{part_of, total, covered_length}
 use Rattle.houses.specs.Forecastle.{house_that, is_forecastle, forecastle_of}
 use Rattle.houses.specs.Cover.{reach_of, reach}
 use Rattle.houses.specs.Amidships.{covers_amidships, amidships_of}
+use Rattle.houses.proofs.Order.{tail}
 use Rattle.houses.proofs.Counted.{covered_most}
 use Rattle.houses.proofs.Limits.{part_most, no_part, no_limited}
 use Rattle.houses.proofs.Rounded.{effective_length_most}
@@ -84,11 +83,6 @@ pub bare_amidships : (l : ℕ) → ratio_of l (amidships_of l []) ≡ record { t
 unfolding amidships_of house_that
 bare_amidships l = λ i. record { top = no_lesser l i; bottom = (low_height l false).top }
 
-pub good_from : (l : ℕ) (hs : List House) (k : ℕ) → GoodHouses l hs → GoodHouses l (drop k hs)
-good_from l hs k g =
-    record {
-      each = λ j m. rw (get_or-drop k hs j _) (g.each (k + j) (omega (arith, length-drop k hs)));
-      order = λ j m.
-          let a : k + (j + 1) ≡ k + j + 1 = omega arith in
-          rw (get_or-drop k hs j _, get_or-drop k hs (j + 1) _, a) (g.order (k + j) (omega (arith, length-drop k hs)));
-    }
+pub good_from : (l : ℕ) (xs ys : List House) → GoodHouses l (xs ++ ys) → GoodHouses l ys
+good_from l [] ys g = g
+good_from l (x ∷ xs) ys g = good_from l xs ys (tail g)

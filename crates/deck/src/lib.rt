@@ -32,6 +32,7 @@ pub struct Deck {
 }
 
 // The ratio of heights of the house amidships, with one more house before the others: its own, or the others'.
+#[tactic(auto, unfolding(whole::specs::Pick::pick))]
 fn amidships_with(l: Span, h: House, own: Ratio, others: Ratio) -> Ratio
     requires { (l.0 ≤ 365000) × GoodHouse l.0 h }
     ensures { result ≡ pick (covers_amidships l.0 h) own others }
@@ -45,6 +46,7 @@ fn amidships_with(l: Span, h: House, own: Ratio, others: Ratio) -> Ratio
 }
 
 // A deck with one more house before the others, of that ratio of heights.
+#[tactic(auto, unfolding(crate::specs::Deck::deck_with, whole::specs::Pick::pick))]
 pub fn with_house(l: Span, h: House, ratio: Ratio, d: Deck) -> Deck
     requires { (l.0 ≤ 365000) × GoodHouse l.0 h × (ratio ≡ ratio_of l.0 h) × FairDeck l.0 d }
     ensures { result ≡ deck_with l.0 h d }
@@ -55,15 +57,15 @@ pub fn with_house(l: Span, h: House, ratio: Ratio, d: Deck) -> Deck
     let effective = summed::with_one(h, own, d.effective);
     let reach = houses::reach_of(l, h) + d.reach;
     let amidships = amidships_with(l, h, ratio, d.amidships);
-    let mut forecastle = d.forecastle;
-    if houses::is_forecastle(l, h) {
-        let height = h.height;
-        forecastle = Forecastle {
+    let forecastle = if houses::is_forecastle(l, h) {
+        Forecastle {
             effective: own,
             part,
-            height,
-        };
-    }
+            height: h.height,
+        }
+    } else {
+        d.forecastle
+    };
     Deck {
         s,
         effective,
@@ -74,26 +76,25 @@ pub fn with_house(l: Span, h: House, ratio: Ratio, d: Deck) -> Deck
 }
 
 // The deck with no house.
+#[tactic(auto, using(crate::proofs::Gathered::bare, crate::proofs::Gathered::bare_amidships), unfolding(crate::specs::Deck::deck_of, summed::specs::Summed::summed_of, houses::specs::Length::covered_length, houses::specs::Length::total, houses::specs::Cover::reach, houses::specs::Effective::those))]
 fn bare_deck(l: Span) -> Deck
     ensures { result ≡ deck_of l.0 [] }
 {
     let effective = summed::of_none(l);
     let nothing = effective.ordinary; // no length, over a denominator that is not 0
-    let forecastle = Forecastle {
-        effective: nothing,
-        part: Span(0),
-        height: Span(0),
-    };
-    let amidships = Ratio {
-        top: 0,
-        bottom: nothing.bottom,
-    };
     Deck {
         s: Span(0),
         effective,
         reach: 0,
-        forecastle,
-        amidships,
+        forecastle: Forecastle {
+            effective: nothing,
+            part: Span(0),
+            height: Span(0),
+        },
+        amidships: Ratio {
+            top: 0,
+            bottom: nothing.bottom,
+        },
     }
 }
 
@@ -104,12 +105,8 @@ pub fn deck_of(l: Span, hs: [House; 8], n: usize) -> Deck
     ensures fair_deck { FairDeck l.0 result }
 {
     let mut d = bare_deck(l);
-    let mut k = n;
-    while 0 < k {
-        k -= 1;
-        let h = hs[k];
-        let ratio = effective::height_ratio(l, h);
-        d = with_house(l, h, ratio, d);
+    for &h in hs[..n].iter().rev() {
+        d = with_house(l, h, effective::height_ratio(l, h), d);
     }
     d
 }

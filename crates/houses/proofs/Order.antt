@@ -13,7 +13,7 @@ abbrev pub InOrder : ℕ → List House → Type 0
 InOrder m [] = Unit {0}
 InOrder m (h ∷ hs) = (m ≤ h.aft.0) × (h.aft.0 ≤ h.fore.0) × InOrder h.fore.0 hs
 
-tail : {l : ℕ} {h : House} {hs : List House} → GoodHouses l (h ∷ hs) → GoodHouses l hs
+pub tail : {l : ℕ} {h : House} {hs : List House} → GoodHouses l (h ∷ hs) → GoodHouses l hs
 tail g = record { each = λ k p. g.each (suc k) (omega arith); order = λ k p. rw (add-one k) (rw (add-one (suc k)) at (g.order (suc k) (omega arith))) }
 
 from : {l : ℕ} (m : ℕ) (hs : List House) → GoodHouses l hs → (0 < length hs → m ≤ (house_at hs 0).aft.0) → InOrder m hs

@@ -29,29 +29,29 @@ pub struct Hull {
 }
 
 // The hull of a ship that the reader accepts.
+#[tactic(auto, unfolding(crate::specs::Parts::hull_of))]
 pub fn hull_of(x: Ship) -> Hull
     requires { Sound x }
     ensures value { result ≡ hull_of x }
     ensures fair_hull { FairHull result }
 {
-    let b = x.kind != kind::A;
-    let length = x.length;
-    let o = x.sheer;
     let block = fullness::counted_block(x.block);
-    let basis = basis::basis_of(x.kind, length);
-    let d = x.depth;
-    let deep = depth::addition(length, d);
-    let mean = sheer::mean_sheer(length, o);
-    let bow = bow::asked(length, x.moulded, block, x.waterplane, o[4], o[5]);
     Hull {
-        b,
-        length,
+        b: x.kind != kind::A,
+        length: x.length,
         block,
-        basis,
-        depth: d,
-        deep,
-        mean,
-        bow,
+        basis: basis::basis_of(x.kind, x.length),
+        depth: x.depth,
+        deep: depth::addition(x.length, x.depth),
+        mean: sheer::mean_sheer(x.length, x.sheer),
+        bow: bow::asked(
+            x.length,
+            x.moulded,
+            block,
+            x.waterplane,
+            x.sheer[4],
+            x.sheer[5],
+        ),
     }
 }
 
@@ -61,21 +61,19 @@ pub fn timber_line(x: Ship) -> Freeboard
     ensures result_value { result.0 ≡ (timber_basis x).line }
     ensures result_bound { result.0 ≤ 6400000 }
 {
-    let b = basis::basis_of(kind::for_timber(x.kind), x.length);
-    b.line
+    basis::basis_of(kind::for_timber(x.kind), x.length).line
 }
 
 // What the other marks need of a ship. The floor is the least freeboard that its type decides.
+#[tactic(auto, unfolding(steps::specs::Steps::particulars_of))]
 pub fn particulars_of(x: Ship, floor: u64) -> Particulars
     requires { floor ≡ (basis x).floor }
     ensures { result ≡ particulars_of x }
 {
-    let depth = x.depth;
-    let length = x.length;
     Particulars {
         floor,
-        depth,
-        length,
+        depth: x.depth,
+        length: x.length,
         displacement: x.displacement,
         immersion: x.immersion,
     }

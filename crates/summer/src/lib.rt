@@ -1,10 +1,9 @@
-// The steps to the summer mark and to LS, put together: what is added, what is taken, and the mark, of a hull and a deck.
+// The steps to the summer mark and to LS, put together: what is added, what is taken, and the mark, of a vessel, that is a hull and a deck.
 #![tactic(auto)]
 
 ghost use Rattle.std.specs.Prelude.{◌≡◌, ◌*◌, ◌≤◌, ◌^◌};
 ghost use Rattle.percentages.specs.Table37.{entries};
 ghost use Rattle.deduction.specs.Deduction37.{deduction};
-ghost use Rattle.effective.specs.Unrounded.{FairRatio, FairLength};
 ghost use Rattle.deck.specs.Deck.{FairDeck};
 ghost use Rattle.hull.specs.Parts.{FairHull};
 ghost use Rattle.summer.specs.Parts.{added_on, taken_on, balance_on, summer_on, timber_on};
@@ -14,13 +13,22 @@ use deck::Deck;
 use hull::Hull;
 use percentages::Row;
 use timber::Level;
-use units::{Effective, Freeboard, Ratio, Span, Unrounded};
+use units::{Effective, Freeboard, Span};
 
 // What is added and what is taken, which meet only in a mark.
 #[derive(Clone, Copy)]
 pub struct Balance {
     pub added: Freeboard,
     pub taken: Freeboard,
+}
+
+// A ship as the steps need it: its hull, and what the houses on its deck give. Both leave room for every sum and product.
+#[derive(Clone, Copy)]
+pub struct Vessel {
+    pub hull: Hull,
+    pub deck: Deck,
+    pub ghost fair_hull: { FairHull hull },
+    pub ghost fair_deck: { FairDeck hull.length.0 deck },
 }
 
 // The houses' deduction (37) for an effective length `e`, by a row of percentages.
@@ -35,73 +43,72 @@ fn deduction_by(row: Row, l: Span, e: Effective) -> Freeboard
     deduction::of_full(l, deduction::share(p, q, l, e))
 }
 
-// What is added: the line, made greater for short B ships (29) and fullness (30), then what depth adds (31), then sheer where it is lacking (38).
-fn added(line: Freeboard, h: Hull, e: Effective, lacking: Freeboard) -> Freeboard
-    requires { (line.0 ≤ 6400000) × FairHull h × (lacking.0 ≤ 9000000) }
-    ensures result_value { result.0 ≡ added_on line.0 h e.0 lacking.0 }
-    ensures result_bound { result.0 ≤ 2 ^ 32 }
-{
-    let full = before_sheer::made_full(line, h.b, h.length, h.block, e);
-    units::sum(units::sum(full, h.deep), lacking)
-}
-
-// What is taken: depth below L / 15 (31) by the ratio of heights of the house amidships, the houses' deduction (37) by a row of percentages, and sheer where it
-// is in excess (38).
-fn taken(
-    row: Row,
-    h: Hull,
-    amidships: Ratio,
-    forecastle: Unrounded,
-    e: Effective,
-    excess: Freeboard,
-) -> Freeboard
-    requires { FairHull h × FairRatio amidships × FairLength forecastle × (e.0 ≤ 1000 * h.length.0) × (excess.0 ≤ 456250) }
-    ensures result_value { result.0 ≡ taken_on (entries row) h amidships forecastle e.0 excess.0 }
-    ensures result_bound { result.0 ≤ 2 ^ 32 }
-{
-    let l = h.length;
-    let shallow = depth::reduction(l, h.depth, amidships);
-    let full = deduction_by(row, l, e);
-    let granted = deduction::if_granted(h.b, forecastle, l, full);
-    units::sum(units::sum(shallow, granted), excess)
-}
-
-// The two of a hull and a deck, from a line and by a row of percentages.
-fn balance_on(line: Freeboard, row: Row, h: Hull, d: Deck) -> Balance
-    requires { (line.0 ≤ 6400000) × FairHull h × FairDeck h.length.0 d }
-    ensures value { result ≡ balance_on line.0 (entries row) h d }
-    ensures added_bound { (result.added.0 ≤ 2 ^ 32) × (result.taken.0 ≤ 2 ^ 32) }
-{
-    let l = h.length;
-    let forecastle = d.forecastle;
-    let e = summed::effective_length(d.effective);
-    let c = sheer_correction::correct(h.mean, l, d.s, d.reach);
-    let gained = added(line, h, e, c.added);
-    let lost = taken(row, h, d.amidships, forecastle.effective, e, c.deducted);
-    Balance {
-        added: gained,
-        taken: lost,
+impl Vessel {
+    // What is added: the line, made greater for short B ships (29) and fullness (30), then what depth adds (31), then sheer where it is lacking (38).
+    #[tactic(auto, unfolding(crate::specs::Parts::added_on))]
+    fn added(self, line: Freeboard, e: Effective, lacking: Freeboard) -> Freeboard
+        requires { (line.0 ≤ 6400000) × (lacking.0 ≤ 9000000) }
+        ensures result_value { result.0 ≡ added_on line.0 self.hull e.0 lacking.0 }
+        ensures result_bound { result.0 ≤ 2 ^ 32 }
+    {
+        let h = self.hull;
+        let full = before_sheer::made_full(line, h.b, h.length, h.block, e);
+        units::sum(units::sum(full, h.deep), lacking)
     }
-}
 
-// The summer mark of a hull and a deck, in millimetres.
-pub fn summer_on(h: Hull, d: Deck) -> u64
-    requires { FairHull h × FairDeck h.length.0 d }
-    ensures { result ≡ summer_on h d }
-{
-    let l = h.length;
-    let f = d.forecastle;
-    let b = balance_on(h.basis.line, Row::Ordinary, h, d);
-    let bow = bow::freeboard(h.bow, l, f.part, f.height);
-    mark::summer(h.basis.floor, b.added, b.taken, bow)
-}
+    // What is taken: depth below L / 15 (31) by the ratio of heights of the house amidships, the houses' deduction (37) by a row of percentages, and sheer where it
+    // is in excess (38).
+    #[tactic(auto, unfolding(crate::specs::Parts::taken_on, deduction::specs::Deduction37::deducted))]
+    fn taken(self, row: Row, e: Effective, excess: Freeboard) -> Freeboard
+        requires { (e.0 ≤ 1000 * self.hull.length.0) × (excess.0 ≤ 456250) }
+        ensures result_value { result.0 ≡ taken_on (entries row) self.hull self.deck.amidships self.deck.forecastle.effective e.0 excess.0 }
+        ensures result_bound { result.0 ≤ 2 ^ 32 }
+    {
+        let h = self.hull;
+        let d = self.deck;
+        let shallow = depth::reduction(h.length, h.depth, d.amidships);
+        let full = deduction_by(row, h.length, e);
+        let granted = deduction::if_granted(h.b, d.forecastle.effective, h.length, full);
+        units::sum(units::sum(shallow, granted), excess)
+    }
 
-// LS of a hull and a deck, from a line: by the timber percentages, with no bow height and no floor.
-pub fn timber_on(line: Freeboard, h: Hull, d: Deck) -> Level
-    requires { (line.0 ≤ 6400000) × FairHull h × FairDeck h.length.0 d }
-    ensures value { result ≡ timber_on line.0 h d }
-    ensures up_bound { (result.up ≤ 2 ^ 31) × (result.down ≤ 2 ^ 31) }
-{
-    let b = balance_on(line, Row::Timber, h, d);
-    timber::level_of(b.added, b.taken)
+    // The two, from a line and by a row of percentages.
+    #[tactic(auto, unfolding(crate::specs::Parts::balance_on))]
+    fn balance(self, line: Freeboard, row: Row) -> Balance
+        requires { line.0 ≤ 6400000 }
+        ensures value { result ≡ balance_on line.0 (entries row) self.hull self.deck }
+        ensures added_bound { (result.added.0 ≤ 2 ^ 32) × (result.taken.0 ≤ 2 ^ 32) }
+    {
+        let h = self.hull;
+        let d = self.deck;
+        let e = summed::effective_length(d.effective);
+        let c = sheer_correction::correct(h.mean, h.length, d.s, d.reach);
+        Balance {
+            added: self.added(line, e, c.added),
+            taken: self.taken(row, e, c.deducted),
+        }
+    }
+
+    // The summer mark, in millimetres.
+    #[tactic(auto, unfolding(crate::specs::Parts::summer_on, crate::specs::Parts::bow_on))]
+    pub fn summer(self) -> u64
+        ensures { result ≡ summer_on self.hull self.deck }
+    {
+        let h = self.hull;
+        let f = self.deck.forecastle;
+        let b = self.balance(h.basis.line, Row::Ordinary);
+        let bow = bow::freeboard(h.bow, h.length, f.part, f.height);
+        mark::summer(h.basis.floor, b.added, b.taken, bow)
+    }
+
+    // LS, from a line: by the timber percentages, with no bow height and no floor.
+    #[tactic(auto, unfolding(crate::specs::Parts::timber_on))]
+    pub fn timber(self, line: Freeboard) -> Level
+        requires { line.0 ≤ 6400000 }
+        ensures value { result ≡ timber_on line.0 self.hull self.deck }
+        ensures up_bound { (result.up ≤ 2 ^ 31) × (result.down ≤ 2 ^ 31) }
+    {
+        let b = self.balance(line, Row::Timber);
+        timber::level_of(b.added, b.taken)
+    }
 }

@@ -1,0 +1,12 @@
+-- The houses passed, from the last on, have their deck.
+use Rattle.std.proofs.Common.{◌≡◌, take, List, ◌++◌}
+use Rattle.ship.specs.declared.House.{House}
+use Rattle.deck.specs.Deck.{deck_of}
+use Rattle.deck.proofs.deck_of.Given as goal
+
+abbrev pub invariant-loop-h : goal.invariant-loop-h
+invariant-loop-h l = record {
+  passed : List House;
+  all : l.h-iterator.iter.rest.now ++ passed ≡ take l.n l.fn.hs;
+  deck : l.d ≡ deck_of l.l.0 passed;
+}

@@ -8,63 +8,66 @@ ghost use Rattle.bow.specs.Bow.{exact_b1, rises, falls, higher, lower, sheer_tak
 
 use units::{Freeboard, LIFT, Ordinate, Span};
 
-// b1 in 5000000000ths of a um: so it is whole.
-fn cubic_of(l: Span) -> u64
-    requires { l.0 ≤ 365000 }
-    ensures frac { frac result 5000000000 ≈f exact_b1 l.0 }
-    ensures upper_bound { result ≤ 34600000000000000 }
-{
-    let mm = l.0;
-    mm * (303750000000 + mm * mm - 937500 * mm)
+// What 39(1) asks by: L, M, a Cb that counts and Cwf, both in ten thousandths.
+#[derive(Clone, Copy)]
+struct Measures {
+    l: Span,
+    m: Span,
+    cb: u64,
+    cwf: u64,
+    ghost in_range: { (l.0 ≤ 365000) × (1000 ≤ m.0) × (m.0 ≤ 60000) × (cb ≤ 12000) × (cwf ≤ 10000) },
 }
 
-// The terms that add to b2, in millionths and times 170 M: so they are whole.
-fn rise(m: Span, cb: u64) -> u64
-    requires { (1000 ≤ m.0) × (m.0 ≤ 60000) × (cb ≤ 12000) }
-    ensures frac { frac result (170 * m.0) ≈f rises cb *f whole 1000000 }
-    ensures upper_bound { result ≤ 478000000 * m.0 }
-{
-    let depth = m.0;
-    17 * depth * (20800000 + 609 * cb)
-}
+impl Measures {
+    // b1 in 5000000000ths of a um: so it is whole.
+    fn cubic(self) -> u64
+        ensures frac { frac result 5000000000 ≈f exact_b1 self.l.0 }
+        ensures upper_bound { result ≤ 34600000000000000 }
+    {
+        let mm = self.l.0;
+        mm * (303750000000 + mm * mm - 937500 * mm)
+    }
 
-// The terms that take from it, the same.
-fn fall(l: Span, m: Span, cwf: u64) -> u64
-    requires { (l.0 ≤ 365000) × (1000 ≤ m.0) × (m.0 ≤ 60000) × (cwf ≤ 10000) }
-    ensures frac { frac result (170 * m.0) ≈f falls l.0 m.0 cwf *f whole 1000000 }
-    ensures upper_bound { result ≤ 272510000 * m.0 + 941700000000 }
-{
-    let depth = m.0;
-    let length = l.0;
-    17 * depth * (1603 * cwf) + 2580000 * length
-}
+    // The terms that add to b2, in millionths and times 170 M: so they are whole.
+    fn rise(self) -> u64
+        ensures frac { frac result (170 * self.m.0) ≈f rises self.cb *f whole 1000000 }
+        ensures upper_bound { result ≤ 478000000 * self.m.0 }
+    {
+        17 * self.m.0 * (20800000 + 609 * self.cb)
+    }
 
-// The height that 39(1) asks for, and 0 where b2 is below zero.
-fn up(l: Span, m: Span, cb: u64, cwf: u64) -> Freeboard
-    requires { (l.0 ≤ 365000) × (1000 ≤ m.0) × (m.0 ≤ 60000) × (cb ≤ 12000) × (cwf ≤ 10000) }
-    ensures result_value { result.0 ≡ higher l.0 m.0 cb cwf }
-    ensures result_bound { result.0 ≤ 2 ^ 48 }
-{
-    let depth = m.0;
-    let b1 = whole::div_up(cubic_of(l), 5000000000);
-    let b2 = whole::div_up(whole::less(rise(m, cb), fall(l, m, cwf)), 170 * depth);
-    Freeboard(whole::mul_div_up(b1, b2, 1000000))
-}
+    // The terms that take from it, the same.
+    fn fall(self) -> u64
+        ensures frac { frac result (170 * self.m.0) ≈f falls self.l.0 self.m.0 self.cwf *f whole 1000000 }
+        ensures upper_bound { result ≤ 272510000 * self.m.0 + 941700000000 }
+    {
+        17 * self.m.0 * (1603 * self.cwf) + 2580000 * self.l.0
+    }
 
-// Its size where b2 is below zero, and 0 where b2 is above.
-fn down(l: Span, m: Span, cb: u64, cwf: u64) -> Freeboard
-    requires { (l.0 ≤ 365000) × (1000 ≤ m.0) × (m.0 ≤ 60000) × (cb ≤ 12000) × (cwf ≤ 10000) }
-    ensures result_value { result.0 ≡ lower l.0 m.0 cb cwf }
-    ensures result_bound { result.0 ≤ 2 ^ 48 }
-{
-    let depth = m.0;
-    let b1 = cubic_of(l) / 5000000000;
-    let b2 = whole::less(fall(l, m, cwf), rise(m, cb)) / (170 * depth);
-    Freeboard(b1 * b2 / 1000000)
+    // The height that 39(1) asks for, and 0 where b2 is below zero.
+    fn up(self) -> Freeboard
+        ensures result_value { result.0 ≡ higher self.l.0 self.m.0 self.cb self.cwf }
+        ensures result_bound { result.0 ≤ 2 ^ 48 }
+    {
+        let b1 = whole::div_up(self.cubic(), 5000000000);
+        let b2 = whole::div_up(whole::less(self.rise(), self.fall()), 170 * self.m.0);
+        Freeboard(whole::mul_div_up(b1, b2, 1000000))
+    }
+
+    // Its size where b2 is below zero, and 0 where b2 is above. With `up` it shares no quotient: each of the three is rounded the other way.
+    fn down(self) -> Freeboard
+        ensures result_value { result.0 ≡ lower self.l.0 self.m.0 self.cb self.cwf }
+        ensures result_bound { result.0 ≤ 2 ^ 48 }
+    {
+        let b1 = self.cubic() / 5000000000;
+        let b2 = whole::less(self.fall(), self.rise()) / (170 * self.m.0);
+        Freeboard(b1 * b2 / 1000000)
+    }
 }
 
 // An ordinate at FP as a freeboard, if the ordinate at L/6 from FP is above zero; else 0. It is asked for twice: for the sheer at FP, which is taken with
 // the 8192 mm in it (LIFT), and for these alone, which are given back.
+#[tactic(auto, unfolding(crate::specs::Bow::sheer_taken, whole::specs::Pick::pick))]
 fn sheer_taken(sixth: Ordinate, fp: Ordinate) -> Freeboard
     requires { fp.0 < lift + lift }
     ensures result_value { result.0 ≡ sheer_taken sixth.0 fp.0 }
@@ -78,6 +81,7 @@ fn sheer_taken(sixth: Ordinate, fp: Ordinate) -> Freeboard
 }
 
 // The forecastle's height, if its length is at least 0.07 L.
+#[tactic(auto, unfolding(crate::specs::Bow::forecastle_taken, whole::specs::Pick::pick))]
 fn forecastle_taken(l: Span, length: Span, height: Span) -> Freeboard
     requires { (l.0 ≤ 365000) × (length.0 ≤ 365000) × (height.0 ≤ 8191) }
     ensures result_value { result.0 ≡ forecastle_taken l.0 length.0 height.0 }
@@ -104,8 +108,9 @@ pub fn asked(l: Span, m: Span, cb: u64, cwf: u64, sixth: Ordinate, fp: Ordinate)
     ensures above_value { (result.above.0 ≡ higher l.0 m.0 cb cwf + sheer_taken sixth.0 lift) × (result.below.0 ≡ lower l.0 m.0 cb cwf + sheer_taken sixth.0 fp.0) }
     ensures above_bound { (result.above.0 ≤ 2 ^ 49) × (result.below.0 ≤ 2 ^ 49) }
 {
-    let above = units::sum(up(l, m, cb, cwf), sheer_taken(sixth, Ordinate(LIFT)));
-    let below = units::sum(down(l, m, cb, cwf), sheer_taken(sixth, fp));
+    let measures = Measures { l, m, cb, cwf };
+    let above = units::sum(measures.up(), sheer_taken(sixth, Ordinate(LIFT)));
+    let below = units::sum(measures.down(), sheer_taken(sixth, fp));
     Height { above, below }
 }
 

@@ -39,58 +39,6 @@ fn half(perpendicular: Ordinate, sixth: Ordinate, third: Ordinate) -> u64
     p + 3 * s + 3 * t
 }
 
-// What of an after excess counts, in 240ths of a um: none where the forward half lacks sheer.
-fn after(a: u64, f: u64, l: Span) -> u64
-    requires { (a ≤ 14 * lift) × (f ≤ 14 * lift) × (l.0 ≤ 365000) }
-    ensures frac { frac result 240 ≈f after_counts a f l.0 }
-    ensures upper_bound { result ≤ 1721000000 }
-{
-    let mm = l.0;
-    if 30000 * f < LIFT7 + 1334 * (mm + 30000) {
-        return 0;
-    }
-    whole::less(30000 * a, LIFT7 + 667 * (mm + 30000))
-}
-
-// What of a forward excess counts: none where the after half has 50 per cent of its standard w or less, all from 75 on. There w cancels; it stays in the
-// divisor only where an excess counts in part.
-fn forward(a: u64, f: u64, l: Span) -> Credit
-    requires { (a ≤ 14 * lift) × (f ≤ 14 * lift) × (l.0 ≤ 365000) }
-    ensures frac { frac result.top (240 * result.bottom) ≈f above f (standard_forward l.0) *f forward_share a (standard_after l.0) }
-    ensures bottom_nonzero { (0 < result.bottom) × (result.bottom ≤ 263465000) × (result.top ≤ 1721000000 * result.bottom) }
-{
-    let mm = l.0;
-    let w = 667 * (mm + 30000);
-    let excess = whole::less(30000 * f, LIFT7 + 1334 * (mm + 30000));
-    // So many of w: 4 times what the after sum has above 50 per cent of w, which is w at 75 per cent.
-    let part = whole::less(120000 * a, 4 * LIFT7 + 2 * w);
-    let counted = excess * part;
-    if counted == 0 {
-        return Credit { top: 0, bottom: 1 };
-    }
-    if w <= part {
-        return Credit {
-            top: excess,
-            bottom: 1,
-        };
-    }
-    Credit {
-        top: counted,
-        bottom: w,
-    }
-}
-
-// What both halves lack, in 240ths of a um.
-fn lacking(a: u64, f: u64, l: Span) -> u64
-    requires { (a ≤ 14 * lift) × (f ≤ 14 * lift) × (l.0 ≤ 365000) }
-    ensures frac { frac result 240 ≈f lacks a (standard_after l.0) +f lacks f (standard_forward l.0) }
-    ensures upper_bound { result ≤ 4300000000 }
-{
-    let mm = l.0;
-    whole::less(LIFT7 + 667 * (mm + 30000), 30000 * a)
-        + whole::less(LIFT7 + 1334 * (mm + 30000), 30000 * f)
-}
-
 // (p - q) / d um, rounded down: of the two quotients only the one that the sign asks for.
 fn down(p: u64, q: u64, d: u64) -> Mean
     requires { (0 < d) × (d ≤ 126463200000) × (p ≤ 7200000 * d) × (q ≤ 9000000 * d) }
@@ -109,30 +57,91 @@ fn down(p: u64, q: u64, d: u64) -> Mean
     }
 }
 
-// The mean of both halves, rounded down. Where the credit's bottom is 1 it is over the constant 480, by which the compiler divides with a product, as long as it
-// works `down` in place.
-fn mean_of(a: u64, f: u64, l: Span) -> Mean
-    requires { (a ≤ 14 * lift) × (f ≤ 14 * lift) × (l.0 ≤ 365000) }
-    ensures deficiency_value { (result.deficiency.0 ≡ deficiency a f l.0) × (result.excess.0 ≡ excess a f l.0) }
-    ensures deficiency_bound { (result.deficiency.0 ≤ 9000000) × (result.excess.0 ≤ 7200000) }
-{
-    let credit = forward(a, f, l);
-    let b = credit.bottom;
-    let p = after(a, f, l) * b + credit.top;
-    let q = lacking(a, f, l) * b;
-    if b == 1 {
-        return down(p, q, 480);
+// The sums of both halves, in millimetres, and L.
+#[derive(Clone, Copy)]
+struct Halves {
+    after: u64,
+    forward: u64,
+    l: Span,
+    ghost in_range: { (after ≤ 14 * lift) × (forward ≤ 14 * lift) × (l.0 ≤ 365000) },
+}
+
+impl Halves {
+    // What of an after excess counts, in 240ths of a um: none where the forward half lacks sheer.
+    fn after_counts(self) -> u64
+        ensures frac { frac result 240 ≈f after_counts self.after self.forward self.l.0 }
+        ensures upper_bound { result ≤ 1721000000 }
+    {
+        let mm = self.l.0;
+        if 30000 * self.forward < LIFT7 + 1334 * (mm + 30000) {
+            return 0;
+        }
+        whole::less(30000 * self.after, LIFT7 + 667 * (mm + 30000))
     }
-    down(p, q, 480 * b)
+
+    // What of a forward excess counts: none where the after half has 50 per cent of its standard w or less, all from 75 on. There w cancels; it stays in the
+    // divisor only where an excess counts in part.
+    fn forward_counts(self) -> Credit
+        ensures frac { frac result.top (240 * result.bottom) ≈f above self.forward (standard_forward self.l.0) *f forward_share self.after (standard_after self.l.0) }
+        ensures bottom_nonzero { (0 < result.bottom) × (result.bottom ≤ 263465000) × (result.top ≤ 1721000000 * result.bottom) }
+    {
+        let mm = self.l.0;
+        let w = 667 * (mm + 30000);
+        let excess = whole::less(30000 * self.forward, LIFT7 + 1334 * (mm + 30000));
+        // So many of w: 4 times what the after sum has above 50 per cent of w, which is w at 75 per cent.
+        let part = whole::less(120000 * self.after, 4 * LIFT7 + 2 * w);
+        let counted = excess * part;
+        if counted == 0 {
+            return Credit { top: 0, bottom: 1 };
+        }
+        if w <= part {
+            return Credit {
+                top: excess,
+                bottom: 1,
+            };
+        }
+        Credit {
+            top: counted,
+            bottom: w,
+        }
+    }
+
+    // What both halves lack, in 240ths of a um.
+    fn lacks(self) -> u64
+        ensures frac { frac result 240 ≈f lacks self.after (standard_after self.l.0) +f lacks self.forward (standard_forward self.l.0) }
+        ensures upper_bound { result ≤ 4300000000 }
+    {
+        let mm = self.l.0;
+        whole::less(LIFT7 + 667 * (mm + 30000), 30000 * self.after)
+            + whole::less(LIFT7 + 1334 * (mm + 30000), 30000 * self.forward)
+    }
+
+    // The mean of both halves, rounded down. Where the credit's bottom is 1 it is over the constant 480, by which the compiler divides with a product, as long as it
+    // works `down` in place.
+    fn mean(self) -> Mean
+        ensures deficiency_value { (result.deficiency.0 ≡ deficiency self.after self.forward self.l.0) × (result.excess.0 ≡ excess self.after self.forward self.l.0) }
+        ensures deficiency_bound { (result.deficiency.0 ≤ 9000000) × (result.excess.0 ≤ 7200000) }
+    {
+        let credit = self.forward_counts();
+        let b = credit.bottom;
+        let p = self.after_counts() * b + credit.top;
+        let q = self.lacks() * b;
+        if b == 1 {
+            return down(p, q, 480);
+        }
+        down(p, q, 480 * b)
+    }
 }
 
 // 38(8) to (11): the mean. The ordinates are AP, L/6, L/3 from AP, then L/3, L/6 from FP, FP. No house changes it.
+#[tactic(auto, unfolding(crate::specs::Sheer::after_sum, crate::specs::Sheer::forward_sum))]
 pub fn mean_sheer(l: Span, ordinates: [Ordinate; 6]) -> Mean
     requires { (l.0 ≤ 365000) × Lifted ordinates }
     ensures deficiency_value { (result.deficiency.0 ≡ deficiency (after_sum ordinates) (forward_sum ordinates) l.0) × (result.excess.0 ≡ excess (after_sum ordinates) (forward_sum ordinates) l.0) }
     ensures deficiency_bound { (result.deficiency.0 ≤ 9000000) × (result.excess.0 ≤ 7200000) }
 {
-    let a = half(ordinates[0], ordinates[1], ordinates[2]);
-    let f = half(ordinates[5], ordinates[4], ordinates[3]);
-    mean_of(a, f, l)
+    let after = half(ordinates[0], ordinates[1], ordinates[2]);
+    let forward = half(ordinates[5], ordinates[4], ordinates[3]);
+    let halves = Halves { after, forward, l };
+    halves.mean()
 }

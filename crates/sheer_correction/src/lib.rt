@@ -15,33 +15,44 @@ pub struct Correction {
     pub deducted: Freeboard,
 }
 
-// What a deficiency adds.
-fn add(deficiency: Freeboard, l: Span, s: Span) -> Freeboard
-    requires { (deficiency.0 ≤ 9000000) × (24000 ≤ l.0) × (l.0 ≤ 365000) × (s.0 ≤ l.0) }
-    ensures result_value { result.0 ≡ addition deficiency.0 l.0 s.0 }
-    ensures result_bound { result.0 ≤ 9000000 }
-{
-    let mm = l.0;
-    let um = deficiency.0;
-    if um == 0 {
-        return Freeboard(0);
-    }
-    Freeboard(whole::mul_div_up(um, 3 * mm - 2 * s.0, 4 * mm))
+// L, what enclosed houses cover of it (S), and the cover's reach in tenths of a millimetre.
+#[derive(Clone, Copy)]
+struct Cover {
+    l: Span,
+    s: Span,
+    reach: u64,
+    ghost in_range: { (24000 ≤ l.0) × (l.0 ≤ 365000) × (s.0 ≤ l.0) × (reach ≤ 2 * l.0) },
 }
 
-// What an excess deducts.
-fn deduct(excess: Freeboard, l: Span, s: Span, reach: u64) -> Freeboard
-    requires { (excess.0 ≤ 7200000) × (24000 ≤ l.0) × (l.0 ≤ 365000) × (s.0 ≤ l.0) × (reach ≤ 2 * l.0) }
-    ensures result_value { result.0 ≡ deduction excess.0 l.0 s.0 reach }
-    ensures result_bound { result.0 ≤ 456250 }
-{
-    let mm = l.0;
-    let covered = excess.0 * reach;
-    if covered == 0 {
-        return Freeboard(0);
+impl Cover {
+    // What a deficiency adds.
+    fn add(self, deficiency: Freeboard) -> Freeboard
+        requires { deficiency.0 ≤ 9000000 }
+        ensures result_value { result.0 ≡ addition deficiency.0 self.l.0 self.s.0 }
+        ensures result_bound { result.0 ≤ 9000000 }
+    {
+        let mm = self.l.0;
+        let um = deficiency.0;
+        if um == 0 {
+            return Freeboard(0);
+        }
+        Freeboard(whole::mul_div_up(um, 3 * mm - 2 * self.s.0, 4 * mm))
     }
-    let full = whole::mul_div_down(covered, 3 * mm - 2 * s.0, 8 * (mm * mm));
-    Freeboard(whole::lesser(full, 5 * mm / 4))
+
+    // What an excess deducts.
+    fn deduct(self, excess: Freeboard) -> Freeboard
+        requires { excess.0 ≤ 7200000 }
+        ensures result_value { result.0 ≡ deduction excess.0 self.l.0 self.s.0 self.reach }
+        ensures result_bound { result.0 ≤ 456250 }
+    {
+        let mm = self.l.0;
+        let covered = excess.0 * self.reach;
+        if covered == 0 {
+            return Freeboard(0);
+        }
+        let full = whole::mul_div_down(covered, 3 * mm - 2 * self.s.0, 8 * (mm * mm));
+        Freeboard(whole::lesser(full, 5 * mm / 4))
+    }
 }
 
 // 38(14) to (16): what a mean adds and deducts. `s` is the length that enclosed houses cover; `reach` is the cover's, before amidships and
@@ -52,7 +63,8 @@ pub fn correct(m: Mean, l: Span, s: Span, reach: u64) -> Correction
     ensures added_value { (result.added.0 ≡ addition m.deficiency.0 l.0 s.0) × (result.deducted.0 ≡ deduction m.excess.0 l.0 s.0 reach) }
     ensures added_bound { (result.added.0 ≤ 9000000) × (result.deducted.0 ≤ 456250) }
 {
-    let added = add(m.deficiency, l, s);
-    let deducted = deduct(m.excess, l, s, reach);
+    let cover = Cover { l, s, reach };
+    let added = cover.add(m.deficiency);
+    let deducted = cover.deduct(m.excess);
     Correction { added, deducted }
 }

@@ -1,7 +1,6 @@
 // The rows of three tables: 27.1 of regulation 27, and 28.1 and 28.2 of regulation 28.
 #![tactic(auto)]
 
-pub mod row;
 pub mod table27;
 pub mod table28a;
 pub mod table28b;

@@ -1,12 +1,9 @@
 // Table 28.1 of regulation 28, type A: the freeboard in mm at each whole metre from 24 to 365.
 // docs/TABLES.md says where the rows are from that the source has damaged.
-ghost use Rattle.std.specs.Prelude.{◌≡◌, ◌<◌, get_or};
+ghost use Rattle.std.specs.Prelude.{◌≡◌};
 ghost use Rattle.tables.specs.Table28.{table28_a};
 
-use crate::row;
-use crate::row::Rows;
-
-const ROWS: [u16; 342] = [
+static ROWS: [u16; 342] = [
     200, 208, 217, 225, 233, 242, 250, 258, 267, 275, 283, 292, 300, 308, 316, 325, 334, 344, 354,
     364, 374, 385, 396, 408, 420, 432, 443, 455, 467, 478, 490, 503, 516, 530, 544, 559, 573, 587,
     600, 613, 626, 639, 653, 666, 680, 693, 706, 720, 733, 746, 760, 773, 786, 800, 814, 828, 841,
@@ -30,13 +27,10 @@ const ROWS: [u16; 342] = [
     3414, 3416, 3418, 3420, 3422, 3423, 3425, 3427, 3428, 3430, 3432, 3433,
 ];
 
-// Rows `k` and `j`, those of 24 + k and 24 + j metres: both from one laying out of the table.
-pub fn rows(k: usize, j: usize) -> Rows
-    requires { (k < 342) × (j < 342) }
-    ensures { (result.lo ≡ get_or table28_a k 0) × (result.hi ≡ get_or table28_a j 0) }
+// The table, which lies in the program's data and is never copied.
+#[tactic(auto, unfolding(crate::specs::Table28::table28_a))]
+pub fn table() -> &'static [u16]
+    ensures { result.now ≡ table28_a }
 {
-    let table = ROWS;
-    let lo = row::wide(table[k]);
-    let hi = row::wide(table[j]);
-    Rows { lo, hi }
+    &ROWS
 }

@@ -1,11 +1,13 @@
 -- Laws of a table's line, from the rule of its rows: it is what code finds between two rows, it grows with the length, and A is at most B.
-use mathlib.Core.Path.{◌≡◌, refl, ap, ap₂, ◌∙◌}
+use mathlib.Core.Path.{◌≡◌, refl, ap}
 use mathlib.Core.List.{List}
 use Prim.Native.Nat.{ℕ, ◌+◌, ◌*◌, ◌-◌, ◌%◌, ◌≤◌, ◌<◌, min, max}
 use native.Mathlib.Nat.{le_refl, le_of_lt, mul-le-mul_right}
 use native.Mathlib.Decide.{dec_lt}
 use native.Mathlib.Omega.{arith}
 use lib.ListN.{length, get_or}
+use Rattle.std.specs.List.Sorted.{IsNonDecreasing}
+use Rattle.std.proofs.lemmas.List.Sorted.{IsNonDecreasingBy-from_default}
 use Rattle.whole.proofs.Climb.{climb}
 use Rattle.tables.proofs.Rule27 as Rule27
 use Rattle.tables.proofs.Rule28.{rule}
@@ -43,6 +45,14 @@ rows_27 =
       small = λ k h. (Rule27.rule k h).small;
     }
 
+module _ {n most : ℕ} {t : List ℕ} (r : Rows n most t) where
+  -- no row is above a later one
+  later_row : (j k : ℕ) → j ≤ k → k < n → get_or t j 0 ≤ get_or t k 0
+  later_row = climb (λ k. get_or t k 0) n (λ k h. le_of_lt (r.rises k h))
+
+  pub non_decreasing : IsNonDecreasing t
+  non_decreasing = IsNonDecreasingBy-from_default (λ (x : ℕ). x) t 0 (λ i j h g. later_row i j h (omega (arith, r.count)))
+
 module _ {n most : ℕ} {t : List ℕ} (r : Rows n most t) (first : ℕ) where
   -- the two rows that a length lies between
   record Pair (l : ℕ) : Type 0 where
@@ -59,23 +69,6 @@ module _ {n most : ℕ} {t : List ℕ} (r : Rows n most t) (first : ℕ) where
             | no g ↦ (let e : next_of first t l ≡ row_of first l = omega (arith, r.count) in rw e (le_refl _))
           ]
 
-  -- the rows k and j that code finds for a length, with what they hold
-  module _ (l : ℕ) {k j lo hi : ℕ} (ek : k ≡ row_of first l) (ej : j ≡ min (k + 1) (n - 1)) (elo : lo ≡ get_or t k 0) (ehi : hi ≡ get_or t j 0) where
-    low : lo ≡ get_or t (row_of first l) 0
-    low = elo ∙ ap (λ (i : ℕ). get_or t i 0) ek
-
-    high : hi ≡ get_or t (next_of first t l) 0
-    high = let e : j ≡ next_of first t l = omega (arith, r.count) in ehi ∙ ap (λ (i : ℕ). get_or t i 0) e
-
-    -- are what the interpolation asks
-    pub fits : row_of first l < n → (lo ≤ hi) × (hi ≤ most)
-    fits h = (let q = pair l h in omega (arith, low, high))
-
-    -- and it gives the table's line
-    pub line : 1000 * lo + (l % 1000) * (hi - lo) ≡ tabular first t l
-    unfolding tabular
-    line = ap₂ (λ (x y : ℕ). 1000 * x + (l % 1000) * (y - x)) low high
-
   pub tabular_at_most_next : (l : ℕ) → row_of first l < n → tabular first t l ≤ get_or t (next_of first t l) 0 * 1000
   unfolding tabular
   tabular_at_most_next l h =
@@ -83,9 +76,9 @@ module _ {n most : ℕ} {t : List ℕ} (r : Rows n most t) (first : ℕ) where
       let p : l % 1000 ≤ 1000 = omega arith in
       omega (arith, mul-le-mul_right (get_or t (next_of first t l) 0 - get_or t (row_of first l) 0) p)
 
-  -- no row is above a later one
-  later_row : (j k : ℕ) → j ≤ k → k < n → get_or t j 0 ≤ get_or t k 0
-  later_row = climb (λ k. get_or t k 0) n (λ k h. le_of_lt (r.rises k h))
+  -- nothing between two rows is above the greatest row
+  pub at_most : (l : ℕ) → row_of first l < n → tabular first t l ≤ 1000 * most
+  at_most l h = omega (arith, tabular_at_most_next l h, (pair l h).small)
 
   -- a longer ship has no less
   pub tabular_grows : (l m : ℕ) → 1000 * first ≤ l → l ≤ m → row_of first m < n → tabular first t l ≤ tabular first t m
@@ -93,7 +86,7 @@ module _ {n most : ℕ} {t : List ℕ} (r : Rows n most t) (first : ℕ) where
   tabular_grows l m h g b =
       elim (dec_lt (row_of first l) (row_of first m)) [
         | yes i ↦
-            omega (arith, tabular_at_most_next l (omega arith), later_row (next_of first t l) (row_of first m) (omega (arith, r.count)) (omega arith))
+            omega (arith, tabular_at_most_next l (omega arith), later_row r (next_of first t l) (row_of first m) (omega (arith, r.count)) (omega arith))
         | no i ↦
             let e : row_of first l ≡ row_of first m = omega arith in
             let p : l % 1000 ≤ m % 1000 = omega arith in

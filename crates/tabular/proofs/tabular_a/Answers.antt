@@ -1,0 +1,12 @@
+use Rattle.std.proofs.Common.{arith}
+use Rattle.tabular.proofs.Laws.{rows_a, non_decreasing, at_most}
+use Rattle.tabular.proofs.tabular_a.Goals as goal
+
+pub tabular-requires-clause-table_rises : goal.tabular-requires-clause-table_rises
+tabular-requires-clause-table_rises c = rw c.table.ensures (non_decreasing rows_a)
+
+pub tabular-requires-clause-row_in_table : goal.tabular-requires-clause-row_in_table
+tabular-requires-clause-row_in_table c = rw (c.table.ensures, rows_a.count) (omega arith)
+
+pub returns-clause-result_bound : goal.returns-clause-result_bound
+returns-clause-result_bound c = rw (c.tabular.ensures, c.table.ensures) (omega (arith, at_most rows_a 24 c.args.l.0 (omega arith)))

@@ -25,6 +25,18 @@ depth_quotient l d n k h p e =
     (trans≈ {y = (whole d -f frac l 15) *f frac n k} (record { eq = rw (bot_of (15 * k) (omega arith), bot_of k p, z) (omega arith) })
     (*_same (refl≈ (whole d -f frac l 15)) e)))
 
+pub addition_to_120 : (l d : ℕ) → l < 15 * d → l < 120000 → ceil_div ((15 * d - l) * l) 7200 ≡ depth_addition l d
+unfolding pick rate
+addition_to_120 l d h k = depth_quotient l d l 480 h (omega arith) (simp (lt-ltb l 120000 k) (omega arith))
+
+pub addition_from_120 : (l d : ℕ) → l < 15 * d → 120000 ≤ l → ceil_div ((15 * d - l) * 250) 15 ≡ depth_addition l d
+unfolding pick rate
+addition_from_120 l d h k = depth_quotient l d 250 1 h (omega arith) (simp (le-ltb l 120000 k) (omega arith))
+
+pub addition_none : (l d : ℕ) → 15 * d ≤ l → depth_addition l d ≡ 0
+unfolding depth_addition exact_depth_addition pick
+addition_none l d h = rw (le-ltb (l * 1) (d * 15) (omega arith)) (ceil_whole 0)
+
 -- L, D and R are exact: only the rounding costs, 1 um
 pub depth_within : (l d : ℕ) → Within (depth_addition l d) (exact_depth_addition l d) (whole 1)
 unfolding depth_addition
@@ -52,6 +64,18 @@ reduction_quotient l d n k t b h p q e =
     (floor_of ((l - 15 * d) * n * t) (15 * k * b) {x = below *f rate l *f frac t b} (mul-pos (omega arith) q)
     (trans≈ {y = below *f frac n k *f frac t b} (record { eq = rw (bot_of (15 * k * b) (mul-pos (omega arith) q), bot_of k p, bot_of b q, z) (omega arith) })
     (*_same (*_same (refl≈ below) e) (refl≈ (frac t b)))))
+
+pub reduction_to_120 : (l d t b : ℕ) → 15 * d < l → l < 120000 → 0 < b → (l - 15 * d) * l * t / (7200 * b) ≡ depth_reduction l d (frac t b)
+unfolding pick rate
+reduction_to_120 l d t b h k p = reduction_quotient l d l 480 t b h (omega arith) p (simp (lt-ltb l 120000 k) (omega arith))
+
+pub reduction_from_120 : (l d t b : ℕ) → 15 * d < l → 120000 ≤ l → 0 < b → (l - 15 * d) * 250 * t / (15 * b) ≡ depth_reduction l d (frac t b)
+unfolding pick rate
+reduction_from_120 l d t b h k p = reduction_quotient l d 250 1 t b h (omega arith) p (simp (le-ltb l 120000 k) (omega arith))
+
+pub reduction_deep : (l d : ℕ) (ratio : Frac) → l ≤ 15 * d → depth_reduction l d ratio ≡ 0
+unfolding depth_reduction exact_depth_reduction pick
+reduction_deep l d ratio h = rw (le-ltb (d * 15) (l * 1) (omega arith)) refl
 
 -- however the ratio is written
 pub reduction_same : (l d : ℕ) {x y : Frac} → x ≈f y → depth_reduction l d x ≡ depth_reduction l d y
@@ -83,9 +107,7 @@ reduction_most l d ratio h k =
 
 -- ---- 31 as a whole: at D = L / 15 nothing is added and nothing taken
 pub depth_level : (l d : ℕ) (ratio : Frac) → 15 * d ≡ l → (depth_addition l d ≡ 0) × (depth_reduction l d ratio ≡ 0)
-unfolding depth_addition exact_depth_addition depth_reduction exact_depth_reduction pick
-depth_level l d ratio e =
-    (rw (le-ltb (l * 1) (d * 15) (omega arith)) (ceil_whole 0), rw (le-ltb (d * 15) (l * 1) (omega arith)) refl)
+depth_level l d ratio e = (addition_none l d (omega arith), reduction_deep l d ratio (omega arith))
 
 -- where the test fails, the difference is nothing anyhow
 pub addition_untested : (l d : ℕ) → exact_depth_addition l d ≈f (whole d -f frac l 15) *f rate l

@@ -46,11 +46,15 @@ short_most l e h =
     (ceil_most ((350 * l - e) * (3 * (100000 - l))) (400 * l) 199500 (omega arith)
     (omega (arith, mul_most (350 * l - e) (3 * (100000 - l)) (350 * l) 228000 (omega arith) (omega arith))))
 
--- and nothing from 100 m on
+-- and nothing from 100 m on, or from an E of 0.35 L on
+nothing : (l e : ℕ) → 0 < l → (350 * l - e) * (3 * (100000 - l)) ≡ 0 → short_b l e ≡ 0
+nothing l e p z = sym (short_quotient l e p) ∙ rw z (ceil_nought (400 * l) (omega arith))
+
 pub short_long : (l e : ℕ) → 100000 ≤ l → short_b l e ≡ 0
-short_long l e h =
-    let z : (350 * l - e) * (3 * (100000 - l)) ≡ 0 = (let k : 100000 - l ≡ 0 = omega arith in rw k (omega arith)) in
-    sym (short_quotient l e (omega arith)) ∙ rw z (ceil_nought (400 * l) (omega arith))
+short_long l e h = nothing l e (omega arith) (let k : 100000 - l ≡ 0 = omega arith in rw k (omega arith))
+
+pub short_enclosed : (l e : ℕ) → 0 < l → 350 * l ≤ e → short_b l e ≡ 0
+short_enclosed l e p h = nothing l e p (let k : 350 * l - e ≡ 0 = omega arith in rw k (omega arith))
 
 -- a greater E never adds more
 pub short_falls : (l e f : ℕ) → 0 < l → e ≤ f → short_b l f ≤ short_b l e

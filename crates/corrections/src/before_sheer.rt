@@ -8,6 +8,7 @@ use crate::{fullness, short};
 use units::{Effective, Freeboard, Span};
 
 // The table's freeboard with regulation 29 where the ship is of type B.
+#[tactic(auto, unfolding(whole::specs::Pick::pick))]
 fn with_short(table: Freeboard, b: bool, length: Span, effective: Effective) -> Freeboard
     requires { (table.0 ≤ 2 ^ 24) × (24000 ≤ length.0) × (length.0 ≤ 365000) }
     ensures result_value { result.0 ≡ table.0 + pick b (short_b length.0 effective.0) 0 }
@@ -20,6 +21,7 @@ fn with_short(table: Freeboard, b: bool, length: Span, effective: Effective) -> 
 }
 
 // The table's freeboard with regulations 29 and 30, for a Cb that counts.
+#[tactic(auto, unfolding(crate::specs::Gathered::made_full))]
 pub fn made_full(
     table: Freeboard,
     b: bool,

@@ -6,6 +6,7 @@ ghost use Rattle.corrections.specs.Depth31.{depth_addition, depth_reduction};
 use units::{Freeboard, Ratio, Span};
 use whole::{less, mul_div_down, mul_div_up};
 
+#[tactic(auto, using(crate::proofs::Depth31::addition_none, crate::proofs::Depth31::addition_to_120, crate::proofs::Depth31::addition_from_120, crate::proofs::Depth31::depth_most))]
 pub fn addition(length: Span, depth: Span) -> Freeboard
     requires { (length.0 ≤ 365000) × (depth.0 ≤ 60000) }
     ensures result_value { result.0 ≡ depth_addition length.0 depth.0 }
@@ -23,6 +24,7 @@ pub fn addition(length: Span, depth: Span) -> Freeboard
 }
 
 // What is taken, in the ratio of heights of the house amidships, which is 0 where there is none. It is rounded once: the ratio is in the one quotient.
+#[tactic(auto, using(crate::proofs::Depth31::reduction_deep, crate::proofs::Depth31::reduction_none, crate::proofs::Depth31::reduction_to_120, crate::proofs::Depth31::reduction_from_120, crate::proofs::Depth31::reduction_most))]
 pub fn reduction(length: Span, depth: Span, ratio: Ratio) -> Freeboard
     requires { (length.0 ≤ 365000) × (depth.0 ≤ 60000) × (ratio.top ≤ ratio.bottom) × (1 ≤ ratio.bottom) × (ratio.bottom ≤ 2 ^ 27) }
     ensures result_value { result.0 ≡ depth_reduction length.0 depth.0 (frac ratio.top ratio.bottom) }

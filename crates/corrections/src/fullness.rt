@@ -14,6 +14,7 @@ pub fn counted_block(cb: u64) -> u64
 }
 
 // The sum so far, for a Cb that counts.
+#[tactic(auto, using(crate::proofs::Fullness30::fullness_none, crate::proofs::Fullness30::fullness_quotient, crate::proofs::Fullness30::fullness_most))]
 pub fn corrected(cb: u64, sum: Freeboard) -> Freeboard
     requires { (cb ≤ 12000) × (sum.0 ≤ 2 ^ 32) }
     ensures result_value { result.0 ≡ fullness cb sum.0 }

@@ -5,6 +5,7 @@ ghost use Rattle.corrections.specs.Short29.{short_b};
 use units::{Effective, Freeboard, Span};
 use whole::mul_div_up;
 
+#[tactic(auto, using(crate::proofs::Short29::short_quotient, crate::proofs::Short29::short_long, crate::proofs::Short29::short_enclosed, crate::proofs::Short29::short_most))]
 pub fn addition(length: Span, effective: Effective) -> Freeboard
     requires { (24000 ≤ length.0) × (length.0 ≤ 365000) }
     ensures result_value { result.0 ≡ short_b length.0 effective.0 }

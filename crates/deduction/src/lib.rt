@@ -11,6 +11,7 @@ use units::{Effective, Freeboard, Span, Unrounded, freeboard_of_mm, sum};
 use whole::{lesser, mul_div_down};
 
 // The full amount, for a ship whose houses cover all of its length.
+#[tactic(auto, using(crate::proofs::Deduction37::full_to_85, crate::proofs::Deduction37::full_to_122, crate::proofs::Deduction37::full_from_122))]
 pub fn full_amount(length: Span) -> Freeboard
     requires { (24000 ≤ length.0) × (length.0 ≤ 365000) }
     ensures result_value { result.0 ≡ full length.0 }
@@ -33,6 +34,7 @@ pub fn full_amount(length: Span) -> Freeboard
 }
 
 // The tenth of L in which E ends: the percentages at it and at the next are those that `share` asks for.
+#[tactic(auto, unfolding(crate::specs::Tenth37::tenth))]
 pub fn tenth_of(length: Span, effective: Effective) -> usize
     requires { (24000 ≤ length.0) × (length.0 ≤ 365000) }
     ensures value { result ≡ tenth length.0 effective.0 }
@@ -44,6 +46,7 @@ pub fn tenth_of(length: Span, effective: Effective) -> usize
 }
 
 // The share of the full amount, in millionths, between the percentages p and q (in tenths of a per cent) at the ends of E's tenth.
+#[tactic(auto, using(crate::proofs::Deduction37::tenth_begins, crate::proofs::Deduction37::share_of_two, crate::proofs::Deduction37::share_from_most))]
 pub fn share(p: u64, q: u64, length: Span, effective: Effective) -> u64
     requires { (p ≤ q) × (q ≤ 1000) × (24000 ≤ length.0) × (length.0 ≤ 365000) × (effective.0 ≤ 1000 * length.0) }
     ensures value { result ≡ share_from p q length.0 effective.0 }
@@ -57,6 +60,7 @@ pub fn share(p: u64, q: u64, length: Span, effective: Effective) -> u64
 }
 
 // So many millionths of the full amount.
+#[tactic(auto, unfolding(crate::specs::Deduction37::of_full))]
 pub fn of_full(length: Span, share: u64) -> Freeboard
     requires { (24000 ≤ length.0) × (length.0 ≤ 365000) × (share ≤ 1000000) }
     ensures result_value { result.0 ≡ of_full length.0 share }
@@ -68,6 +72,7 @@ pub fn of_full(length: Span, share: u64) -> Freeboard
 }
 
 // The deduction, or none where the ship is of type B (`b`) and its forecastle is short, or missing and so of length 0. The fraction itself is tested.
+#[tactic(auto, using(crate::proofs::Deduction37::lacks_quotient), unfolding(whole::specs::Pick::pick))]
 pub fn if_granted(b: bool, forecastle: Unrounded, length: Span, deduction: Freeboard) -> Freeboard
     requires { (1 ≤ forecastle.bottom) × (forecastle.bottom ≤ 2 ^ 35) × (length.0 ≤ 365000) }
     ensures result_value { result.0 ≡ pick (lacks_forecastle b (frac forecastle.top forecastle.bottom) length.0) 0 deduction.0 }

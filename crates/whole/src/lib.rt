@@ -3,7 +3,6 @@
 
 ghost use Rattle.std.specs.Prelude.{◌≡◌, ◌+◌, ◌*◌, ◌-◌, ◌/◌, ◌^◌, ◌≤◌, ◌<◌, min, max, nat_abs, pos, ◌-ℤ◌};
 ghost use Rattle.whole.specs.Divide.{ceil_div};
-ghost use Rattle.whole.specs.Sign.{negative};
 
 // a * b / d, rounded up.
 #[tactic(auto, using(crate::proofs::Divide::ceil_of))]
@@ -66,13 +65,6 @@ pub fn with_sign(n: u64) -> i64
     ensures { result ≡ pos n }
 {
     n as i64
-}
-
-// Whether a number is below zero.
-pub fn below_zero(n: i64) -> bool
-    ensures { result ≡ negative n }
-{
-    n < 0
 }
 
 // The size of a number, without its sign.

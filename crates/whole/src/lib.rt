@@ -5,7 +5,7 @@ ghost use Rattle.std.specs.Prelude.{◌≡◌, ◌+◌, ◌*◌, ◌-◌, ◌/�
 ghost use Rattle.whole.specs.Divide.{ceil_div};
 
 // a * b / d, rounded up.
-#[tactic(auto, using(crate::proofs::Divide::ceil_of))]
+#[tactic(auto, using(crate::proofs::Divide::of_div_ceil))]
 pub fn mul_div_up(a: u64, b: u64, d: u64) -> u64
     requires { (0 < d) × (a * b + d ≤ 2 ^ 64) }
     ensures { result ≡ ceil_div (a * b) d }
@@ -22,7 +22,7 @@ pub fn mul_div_down(a: u64, b: u64, d: u64) -> u64
 }
 
 // a / d, rounded up.
-#[tactic(auto, using(crate::proofs::Divide::ceil_of))]
+#[tactic(auto, using(crate::proofs::Divide::of_div_ceil))]
 pub fn div_up(a: u64, d: u64) -> u64
     requires { (0 < d) × (a + d ≤ 2 ^ 64) }
     ensures { result ≡ ceil_div a d }

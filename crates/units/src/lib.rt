@@ -189,12 +189,11 @@ pub fn freeboard_of_sheer(o: Ordinate) -> Freeboard
 }
 
 // A freeboard in whole millimetres, up.
-#[tactic(auto, using(whole::proofs::Divide::of_div_ceil))]
 pub fn mm_up(f: Freeboard) -> u64
     requires { f.0 ≤ 2 ^ 62 }
     ensures { result ≡ ceil_div f.0 1000 }
 {
-    f.0.div_ceil(1000)
+    whole::div_up(f.0, 1000)
 }
 
 // The sum of two freeboards.

@@ -21,7 +21,7 @@ pub fn mul_div_down(a: u64, b: u64, d: u64) -> u64
     a * b / d
 }
 
-// a / d, rounded up.
+// a / d, rounded up: `div_ceil`, in the word of the contracts, `ceil_div`, so that no caller's proof has to turn the one into the other.
 #[tactic(auto, using(crate::proofs::Divide::of_div_ceil))]
 pub fn div_up(a: u64, d: u64) -> u64
     requires { (0 < d) × (a + d ≤ 2 ^ 64) }

@@ -14,10 +14,8 @@ use units::Span;
 fn no_room(x: Ship) -> bool
     ensures { result ≡ no_room x }
 {
-    let hs = x.houses;
-    let h = hs[0];
     let ap = units::forward_of_ap(Span(0));
-    ((0 < x.n) & units::is_at_or_abaft(h.aft, ap)) | (x.n == 8)
+    ((0 < x.n) & (x.houses[0].aft <= ap)) | (x.n == 8)
 }
 
 // The question on a ship that the reader accepts: refusals 14 to 16.

@@ -1,14 +1,17 @@
-// The units that regulation 28 keeps apart, a type for each: none can be added to another. One becomes another only in a function of this file, or in a
-// regulation's formula, as where lengths give a freeboard. A plain number gets its unit where it comes in: from a record, from C, from who asks.
+// The units that regulation 28 keeps apart, a type for each: none can be added to another or compared with it, and the values of one are ordered as numbers.
+// One becomes another only in a function of this file, or in a regulation's formula, as where lengths give a freeboard. A plain number gets its unit where it
+// comes in: from a record, from C, from who asks. A conversion is a function and no `From`: its name says what the plain number counts, and most have a
+// `requires`, which a `From` can't have.
 #![tactic(auto)]
 
-ghost use Rattle.std.specs.Prelude.{◌≡◌, ◌+◌, ◌-◌, ◌*◌, ◌/◌, ◌^◌, ◌≤◌, ◌<◌, min, max, leb, ltb};
+ghost use Rattle.std.specs.Prelude.{◌≡◌, ◌+◌, ◌-◌, ◌*◌, ◌/◌, ◌^◌, ◌≤◌, ◌<◌, leb};
 ghost use Rattle.whole.specs.Divide.{ceil_div};
 ghost use Rattle.units.specs.Datum.{datum, lift, station_of, mm_of, station_at, sheer_of, ordinate_at, counted_from};
 
 mod print;
 
-// A place along the ship: millimetres forward of the after perpendicular (AP), negative abaft it, with 2^20 added so that none is below zero.
+// A place along the ship: millimetres forward of the after perpendicular (AP), negative abaft it, with 2^20 added so that none is below zero. The lesser
+// of two lies abaft the other.
 #[derive(Clone, Copy, PartialEq, Eq, PartialOrd, Ord)]
 pub struct Station(pub u64);
 
@@ -71,34 +74,6 @@ pub fn forward_of_ap(l: Span) -> Station
     Station(AP + l.0)
 }
 
-// Whether the first of two stations lies abaft the second.
-pub fn is_abaft(a: Station, b: Station) -> bool
-    ensures { result ≡ ltb a.0 b.0 }
-{
-    a < b
-}
-
-// Whether it lies abaft the second or at it.
-pub fn is_at_or_abaft(a: Station, b: Station) -> bool
-    ensures { result ≡ leb a.0 b.0 }
-{
-    a <= b
-}
-
-// The aftermost of two stations.
-pub fn aftermost(a: Station, b: Station) -> Station
-    ensures { result.0 ≡ min a.0 b.0 }
-{
-    a.min(b)
-}
-
-// The foremost of two stations.
-pub fn foremost(a: Station, b: Station) -> Station
-    ensures { result.0 ≡ max a.0 b.0 }
-{
-    a.max(b)
-}
-
 // The length from one station forward to another; 0 where that one lies abaft it.
 pub fn between(aft: Station, fore: Station) -> Span
     ensures { result.0 ≡ fore.0 - aft.0 }
@@ -127,7 +102,8 @@ pub fn tenth_in_tenths(l: Span) -> u64
     l.0
 }
 
-// A station as signed millimetres forward of the after perpendicular.
+// A station as signed millimetres forward of the after perpendicular. An ordinate's twin is below: both are one line, a difference from their zero, so that a
+// trait with the zero and its law would be the longer text.
 pub fn mm_of_station(s: Station) -> i64
     requires { s.0 < 2 ^ 32 }
     ensures { result ≡ mm_of s.0 }
@@ -215,12 +191,11 @@ pub fn freeboard_of_sheer(o: Ordinate) -> Freeboard
 }
 
 // A freeboard in whole millimetres, up.
-#[tactic(auto, using(whole::proofs::Divide::ceil_of))]
 pub fn mm_up(f: Freeboard) -> u64
     requires { f.0 ≤ 2 ^ 62 }
     ensures { result ≡ ceil_div f.0 1000 }
 {
-    f.0.div_ceil(1000)
+    whole::div_up(f.0, 1000)
 }
 
 // The sum of two freeboards.
@@ -236,13 +211,6 @@ pub fn difference(a: Freeboard, b: Freeboard) -> Freeboard
     ensures { result.0 ≡ a.0 - b.0 }
 {
     Freeboard(a.0.saturating_sub(b.0))
-}
-
-// The greater of two freeboards.
-pub fn greater(a: Freeboard, b: Freeboard) -> Freeboard
-    ensures { result.0 ≡ max a.0 b.0 }
-{
-    a.max(b)
 }
 
 // Whether a mark so many millimetres below the deck line lies at the keel or below it; and the draught at one that does not, 0 at one that does.

@@ -25,9 +25,9 @@ ceil_most a b q h k = omega (arith, (div-lt_iff_lt-mul {x = a + (b - 1)} {y = su
 pub ceil_nought : (b : ℕ) → 0 < b → ceil_div 0 b ≡ 0
 ceil_nought b h = omega (arith, ceil_most 0 b 0 h (omega arith))
 
--- the machine's own
-pub ceil_of : (a b : ℕ) → 0 < b → a / b + min 1 (a % b) ≡ ceil_div a b
-ceil_of a b h =
+-- as std's `div_ceil` says it
+pub of_div_ceil : (a b : ℕ) → 0 < b → a / b + min 1 (a % b) ≡ ceil_div a b
+of_div_ceil a b h =
     let t = div_ceil_times a b h in
     let p : ceil_div a b ≤ a / b + min 1 (a % b) = ceil_most a b (a / b + min 1 (a % b)) h t.0 in
     let q : a / b + min 1 (a % b) < suc (ceil_div a b) = lt_of_mul-lt-mul_right b (omega (arith, t.1, ceil_ge a b h)) in

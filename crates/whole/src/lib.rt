@@ -3,10 +3,9 @@
 
 ghost use Rattle.std.specs.Prelude.{◌≡◌, ◌+◌, ◌*◌, ◌-◌, ◌/◌, ◌^◌, ◌≤◌, ◌<◌, min, max, nat_abs, pos, ◌-ℤ◌};
 ghost use Rattle.whole.specs.Divide.{ceil_div};
-ghost use Rattle.whole.specs.Sign.{negative};
 
 // a * b / d, rounded up.
-#[tactic(auto, using(crate::proofs::Divide::ceil_of))]
+#[tactic(auto, using(crate::proofs::Divide::of_div_ceil))]
 pub fn mul_div_up(a: u64, b: u64, d: u64) -> u64
     requires { (0 < d) × (a * b + d ≤ 2 ^ 64) }
     ensures { result ≡ ceil_div (a * b) d }
@@ -22,8 +21,8 @@ pub fn mul_div_down(a: u64, b: u64, d: u64) -> u64
     a * b / d
 }
 
-// a / d, rounded up.
-#[tactic(auto, using(crate::proofs::Divide::ceil_of))]
+// a / d, rounded up: `div_ceil`, in the word of the contracts, `ceil_div`, so that no caller's proof has to turn the one into the other.
+#[tactic(auto, using(crate::proofs::Divide::of_div_ceil))]
 pub fn div_up(a: u64, d: u64) -> u64
     requires { (0 < d) × (a + d ≤ 2 ^ 64) }
     ensures { result ≡ ceil_div a d }
@@ -66,13 +65,6 @@ pub fn with_sign(n: u64) -> i64
     ensures { result ≡ pos n }
 {
     n as i64
-}
-
-// Whether a number is below zero.
-pub fn below_zero(n: i64) -> bool
-    ensures { result ≡ negative n }
-{
-    n < 0
 }
 
 // The size of a number, without its sign.

@@ -74,7 +74,7 @@ fn bad_quarterdeck(l: Span, h: House) -> bool
     h.quarterdeck & (!h.enclosed | (0 < begins) | (short_of_fp < 1))
 }
 
-// Whether a house breaks a rule; `before` is the fore end of the house before it.
+// Whether a house breaks a rule; `before` is the fore end of the house before it. The rule is named, no closure: contracts speak of a rule by its name, and of every rule.
 #[tactic(auto, unfolding(ship::specs::Checks::breaks))]
 pub fn house_breaks(rule: Rule, l: Span, before: Station, h: House) -> bool
     requires { l.0 ≤ 365000 }

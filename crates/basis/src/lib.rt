@@ -8,7 +8,7 @@ ghost use Rattle.basis.specs.Basis.{basis_of, exact_reduced};
 
 use ship::kind;
 use tabular::{covers_add, tabular_a, tabular_b};
-use units::{Freeboard, Span};
+use units::{Freeboard, Length};
 use whole::mul_div_down;
 
 // The line, and the least freeboard in millimetres.
@@ -27,9 +27,9 @@ const LEAST_WITH_COVERS: u64 = 150;
 const SPARED: u64 = 60;
 
 // The line of a B-60 ship. What it is spared is rounded down, so that the line is rounded up.
-fn line_b_60(l: Span) -> Freeboard
-    requires { (24000 ≤ l.0) × (l.0 ≤ 365000) }
-    ensures result_value { result.0 ≡ ceil (exact_reduced 60 l.0) }
+fn line_b_60(l: Length) -> Freeboard
+    requires { 24000 ≤ l.mm }
+    ensures result_value { result.0 ≡ ceil (exact_reduced 60 l.mm) }
     ensures result_bound { result.0 ≤ 6000000 }
 {
     let a = tabular_a(l);
@@ -40,10 +40,10 @@ fn line_b_60(l: Span) -> Freeboard
 }
 
 // The line of a type at a length. A B-100 ship is spared all of what B is above A: A is left.
-fn line_of(kind: u64, l: Span) -> Freeboard
-    requires le_l { (24000 ≤ l.0) × (l.0 ≤ 365000) }
-    requires kind_le_kind_covers { (kind ≤ kind_covers) × (kind ≡ kind_covers → l.0 ≤ 200000) }
-    ensures result_value { result.0 ≡ (basis_of kind l.0).line }
+fn line_of(kind: u64, l: Length) -> Freeboard
+    requires le_l { 24000 ≤ l.mm }
+    requires kind_le_kind_covers { (kind ≤ kind_covers) × (kind ≡ kind_covers → l.mm ≤ 200000) }
+    ensures result_value { result.0 ≡ (basis_of kind l.mm).line }
     ensures result_bound { result.0 ≤ 6400000 }
 {
     if (kind == kind::A) | (kind == kind::B_100) {
@@ -54,16 +54,16 @@ fn line_of(kind: u64, l: Span) -> Freeboard
     }
     let b = tabular_b(l);
     if kind == kind::PORTABLE_COVERS {
-        return units::sum(b, covers_add(l));
+        return units::sum(b, covers_add(l.span()));
     }
     b
 }
 
 // What a type decides for a ship of length `l`.
-pub fn basis_of(kind: u64, l: Span) -> Basis
-    requires le_l { (24000 ≤ l.0) × (l.0 ≤ 365000) }
-    requires kind_le_kind_covers { (kind ≤ kind_covers) × (kind ≡ kind_covers → l.0 ≤ 200000) }
-    ensures line_value { (result.line.0 ≡ (basis_of kind l.0).line) × (result.floor ≡ (basis_of kind l.0).floor) }
+pub fn basis_of(kind: u64, l: Length) -> Basis
+    requires le_l { 24000 ≤ l.mm }
+    requires kind_le_kind_covers { (kind ≤ kind_covers) × (kind ≡ kind_covers → l.mm ≤ 200000) }
+    ensures line_value { (result.line.0 ≡ (basis_of kind l.mm).line) × (result.floor ≡ (basis_of kind l.mm).floor) }
     ensures line_bound { (result.line.0 ≤ 6400000) × (result.floor ≤ 60000) }
 {
     let line = line_of(kind, l);

@@ -6,25 +6,25 @@ ghost use Rattle.whole.specs.Frac.{◌≈f◌, ◌*f◌, whole, frac};
 ghost use Rattle.units.specs.Datum.{lift};
 ghost use Rattle.bow.specs.Bow.{exact_b1, rises, falls, higher, lower, sheer_taken, forecastle_taken};
 
-use units::{Freeboard, LIFT, Ordinate, Span};
+use units::{Freeboard, LIFT, Length, Ordinate, Span};
 
 // What 39(1) asks by: L, M, a Cb that counts and Cwf, both in ten thousandths.
 #[derive(Clone, Copy)]
 struct Measures {
-    l: Span,
+    l: Length,
     m: Span,
     cb: u64,
     cwf: u64,
-    ghost in_range: { (l.0 ≤ 365000) × (1000 ≤ m.0) × (m.0 ≤ 60000) × (cb ≤ 12000) × (cwf ≤ 10000) },
+    ghost in_range: { (1000 ≤ m.0) × (m.0 ≤ 60000) × (cb ≤ 12000) × (cwf ≤ 10000) },
 }
 
 impl Measures {
     // b1 in 5000000000ths of a um: so it is whole.
     fn cubic(self) -> u64
-        ensures frac { frac result 5000000000 ≈f exact_b1 self.l.0 }
+        ensures frac { frac result 5000000000 ≈f exact_b1 self.l.mm }
         ensures upper_bound { result ≤ 34600000000000000 }
     {
-        let mm = self.l.0;
+        let mm = self.l.mm;
         mm * (303750000000 + mm * mm - 937500 * mm)
     }
 
@@ -38,15 +38,15 @@ impl Measures {
 
     // The terms that take from it, the same.
     fn fall(self) -> u64
-        ensures frac { frac result (170 * self.m.0) ≈f falls self.l.0 self.m.0 self.cwf *f whole 1000000 }
+        ensures frac { frac result (170 * self.m.0) ≈f falls self.l.mm self.m.0 self.cwf *f whole 1000000 }
         ensures upper_bound { result ≤ 272510000 * self.m.0 + 941700000000 }
     {
-        17 * self.m.0 * (1603 * self.cwf) + 2580000 * self.l.0
+        17 * self.m.0 * (1603 * self.cwf) + 2580000 * self.l.mm
     }
 
     // The height that 39(1) asks for, and 0 where b2 is below zero.
     fn up(self) -> Freeboard
-        ensures result_value { result.0 ≡ higher self.l.0 self.m.0 self.cb self.cwf }
+        ensures result_value { result.0 ≡ higher self.l.mm self.m.0 self.cb self.cwf }
         ensures result_bound { result.0 ≤ 2 ^ 48 }
     {
         let b1 = whole::div_up(self.cubic(), 5000000000);
@@ -56,7 +56,7 @@ impl Measures {
 
     // Its size where b2 is below zero, and 0 where b2 is above. With `up` it shares no quotient: each of the three is rounded the other way.
     fn down(self) -> Freeboard
-        ensures result_value { result.0 ≡ lower self.l.0 self.m.0 self.cb self.cwf }
+        ensures result_value { result.0 ≡ lower self.l.mm self.m.0 self.cb self.cwf }
         ensures result_bound { result.0 ≤ 2 ^ 48 }
     {
         let b1 = self.cubic() / 5000000000;
@@ -82,12 +82,12 @@ fn sheer_taken(sixth: Ordinate, fp: Ordinate) -> Freeboard
 
 // The forecastle's height, if its length is at least 0.07 L.
 #[tactic(auto, unfolding(crate::specs::Bow::forecastle_taken, whole::specs::Pick::pick))]
-fn forecastle_taken(l: Span, length: Span, height: Span) -> Freeboard
-    requires { (l.0 ≤ 365000) × (length.0 ≤ 365000) × (height.0 ≤ 8191) }
-    ensures result_value { result.0 ≡ forecastle_taken l.0 length.0 height.0 }
+fn forecastle_taken(l: Length, length: Span, height: Span) -> Freeboard
+    requires { (length.0 ≤ 365000) × (height.0 ≤ 8191) }
+    ensures result_value { result.0 ≡ forecastle_taken l.mm length.0 height.0 }
     ensures result_bound { result.0 ≤ 8191000 }
 {
-    let ship = l.0;
+    let ship = l.mm;
     let own = length.0;
     if 7 * ship <= 100 * own {
         return units::freeboard_of_mm(height.0);
@@ -103,9 +103,9 @@ pub struct Height {
 }
 
 // 39(1), and 39(2)'s sheer: on L, M, a Cb that counts and Cwf, both in ten thousandths, and the ordinates at L/6 from FP and at FP.
-pub fn asked(l: Span, m: Span, cb: u64, cwf: u64, sixth: Ordinate, fp: Ordinate) -> Height
-    requires { (l.0 ≤ 365000) × (1000 ≤ m.0) × (m.0 ≤ 60000) × (cb ≤ 12000) × (cwf ≤ 10000) × (fp.0 < lift + lift) }
-    ensures above_value { (result.above.0 ≡ higher l.0 m.0 cb cwf + sheer_taken sixth.0 lift) × (result.below.0 ≡ lower l.0 m.0 cb cwf + sheer_taken sixth.0 fp.0) }
+pub fn asked(l: Length, m: Span, cb: u64, cwf: u64, sixth: Ordinate, fp: Ordinate) -> Height
+    requires { (1000 ≤ m.0) × (m.0 ≤ 60000) × (cb ≤ 12000) × (cwf ≤ 10000) × (fp.0 < lift + lift) }
+    ensures above_value { (result.above.0 ≡ higher l.mm m.0 cb cwf + sheer_taken sixth.0 lift) × (result.below.0 ≡ lower l.mm m.0 cb cwf + sheer_taken sixth.0 fp.0) }
     ensures above_bound { (result.above.0 ≤ 2 ^ 49) × (result.below.0 ≤ 2 ^ 49) }
 {
     let measures = Measures { l, m, cb, cwf };
@@ -115,9 +115,9 @@ pub fn asked(l: Span, m: Span, cb: u64, cwf: u64, sixth: Ordinate, fp: Ordinate)
 }
 
 // 39(2)'s forecastle, of the given length and height, both 0 where there is none: the freeboard that is left to ask for.
-pub fn freeboard(h: Height, l: Span, length: Span, height: Span) -> Freeboard
-    requires { (h.above.0 ≤ 2 ^ 49) × (h.below.0 ≤ 2 ^ 49) × (l.0 ≤ 365000) × (length.0 ≤ 365000) × (height.0 ≤ 8191) }
-    ensures result_value { result.0 ≡ h.above.0 - (h.below.0 + forecastle_taken l.0 length.0 height.0) }
+pub fn freeboard(h: Height, l: Length, length: Span, height: Span) -> Freeboard
+    requires { (h.above.0 ≤ 2 ^ 49) × (h.below.0 ≤ 2 ^ 49) × (length.0 ≤ 365000) × (height.0 ≤ 8191) }
+    ensures result_value { result.0 ≡ h.above.0 - (h.below.0 + forecastle_taken l.mm length.0 height.0) }
     ensures result_bound { result.0 ≤ 2 ^ 49 }
 {
     let above = h.above;

@@ -11,13 +11,12 @@ use house_checks::{breaks_any, house_breaks, misplaced};
 use ship::refusal::Refusal;
 use ship::rule::Rule;
 use ship::{House, Ship};
-use units::{Span, Station};
+use units::{Length, Station};
 
 // The first house that breaks a rule.
 #[tactic(auto, using(ship::proofs::First::first_fail, ship::proofs::First::first_pass, ship::proofs::First::first_end), unfolding(ship::specs::Checks::first_breach, ship::specs::Checks::breach_at))]
-fn first_breach(rule: Rule, l: Span, houses: &[House]) -> Option<usize>
-    requires { l.0 ≤ 365000 }
-    ensures first { unwrap_or result (length houses.now) ≡ first_breach rule l.0 houses.now }
+fn first_breach(rule: Rule, l: Length, houses: &[House]) -> Option<usize>
+    ensures first { unwrap_or result (length houses.now) ≡ first_breach rule l.mm houses.now }
     ensures within { IfSome result (λ k. k < length houses.now) }
 {
     let mut before = Station(0);
@@ -32,9 +31,8 @@ fn first_breach(rule: Rule, l: Span, houses: &[House]) -> Option<usize>
 
 // Whether all houses keep the four: most lists do, and one pass shows it.
 #[tactic(auto, using(ship::proofs::First::first_pass, ship::proofs::First::first_end), unfolding(ship::specs::Checks::first_breach, ship::specs::Checks::breach_at))]
-fn all_keep(l: Span, houses: &[House]) -> bool
-    requires { l.0 ≤ 365000 }
-    ensures { result ≡ true → (rule : Rule) → first_breach rule l.0 houses.now ≡ length houses.now }
+fn all_keep(l: Length, houses: &[House]) -> bool
+    ensures { result ≡ true → (rule : Rule) → first_breach rule l.mm houses.now ≡ length houses.now }
 {
     let mut reached = Station(0);
     for h in houses {
@@ -48,9 +46,8 @@ fn all_keep(l: Span, houses: &[House]) -> bool
 
 // Checks 11 and 18: the first house that begins abaft the fore end of the one before it decides.
 #[tactic(auto, using(ship::proofs::Split::first_bad), unfolding(whole::specs::Pick::pick, ship::specs::Refusals::first))]
-fn in_order(l: Span, houses: &[House]) -> Result<(), Refusal>
-    requires { l.0 ≤ 365000 }
-    ensures { paper result ≡ first (order_lines l.0 houses.now) }
+fn in_order(l: Length, houses: &[House]) -> Result<(), Refusal>
+    ensures { paper result ≡ first (order_lines l.mm houses.now) }
 {
     match first_breach(Rule::Follows, l, houses) {
         Some(k) => Err(misplaced(k, houses[k - 1], houses[k])),
@@ -60,9 +57,9 @@ fn in_order(l: Span, houses: &[House]) -> Result<(), Refusal>
 
 // Checks 9, 23, 10 and 11 or 18 on the first `n` houses, each over all of them before the next.
 #[tactic(auto, unfolding(whole::specs::Pick::pick, ship::specs::Refusals::first))]
-pub fn of_houses(l: Span, houses: [House; 8], n: usize) -> Result<(), Refusal>
-    requires { (l.0 ≤ 365000) × (n ≤ 8) }
-    ensures { paper result ≡ first (house_lines l.0 (take n houses)) }
+pub fn of_houses(l: Length, houses: [House; 8], n: usize) -> Result<(), Refusal>
+    requires { n ≤ 8 }
+    ensures { paper result ≡ first (house_lines l.mm (take n houses)) }
 {
     let houses = &houses[..n];
     if all_keep(l, houses) {
@@ -86,5 +83,6 @@ pub fn of_ship(x: Ship) -> Result<(), Refusal>
     ensures { paper result ≡ first (ship_lines x) }
 {
     of_fields(x)?;
-    of_houses(x.length, x.houses, x.n)
+    let l = Length { mm: x.length.0 };
+    of_houses(l, x.houses, x.n)
 }

@@ -5,13 +5,13 @@ ghost use Rattle.corrections.specs.Short29.{short_b};
 ghost use Rattle.corrections.specs.Gathered.{made_full};
 
 use crate::{fullness, short};
-use units::{Effective, Freeboard, Span};
+use units::{Effective, Freeboard, Length};
 
 // The table's freeboard with regulation 29 where the ship is of type B.
 #[tactic(auto, unfolding(whole::specs::Pick::pick))]
-fn with_short(table: Freeboard, b: bool, length: Span, effective: Effective) -> Freeboard
-    requires { (table.0 ≤ 2 ^ 24) × (24000 ≤ length.0) × (length.0 ≤ 365000) }
-    ensures result_value { result.0 ≡ table.0 + pick b (short_b length.0 effective.0) 0 }
+fn with_short(table: Freeboard, b: bool, length: Length, effective: Effective) -> Freeboard
+    requires { (table.0 ≤ 2 ^ 24) × (24000 ≤ length.mm) }
+    ensures result_value { result.0 ≡ table.0 + pick b (short_b length.mm effective.0) 0 }
     ensures result_bound { result.0 ≤ table.0 + 199500 }
 {
     if !b {
@@ -25,12 +25,12 @@ fn with_short(table: Freeboard, b: bool, length: Span, effective: Effective) -> 
 pub fn made_full(
     table: Freeboard,
     b: bool,
-    length: Span,
+    length: Length,
     cb: u64,
     effective: Effective,
 ) -> Freeboard
-    requires { (table.0 ≤ 6400000) × (24000 ≤ length.0) × (length.0 ≤ 365000) × (cb ≤ 12000) }
-    ensures result_value { result.0 ≡ made_full table.0 b length.0 cb effective.0 }
+    requires { (table.0 ≤ 6400000) × (24000 ≤ length.mm) × (cb ≤ 12000) }
+    ensures result_value { result.0 ≡ made_full table.0 b length.mm cb effective.0 }
     ensures result_bound { result.0 ≤ 2 ^ 24 }
 {
     fullness::corrected(cb, with_short(table, b, length, effective))

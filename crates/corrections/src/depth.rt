@@ -3,16 +3,16 @@ ghost use Rattle.std.specs.Prelude.{◌≡◌, ◌≤◌, ◌^◌};
 ghost use Rattle.whole.specs.Frac.{frac};
 ghost use Rattle.corrections.specs.Depth31.{depth_addition, depth_reduction};
 
-use units::{Freeboard, Ratio, Span};
+use units::{Freeboard, Length, Ratio, Span};
 use whole::{less, mul_div_down, mul_div_up};
 
 #[tactic(auto, using(crate::proofs::Depth31::addition_none, crate::proofs::Depth31::addition_to_120, crate::proofs::Depth31::addition_from_120, crate::proofs::Depth31::depth_most))]
-pub fn addition(length: Span, depth: Span) -> Freeboard
-    requires { (length.0 ≤ 365000) × (depth.0 ≤ 60000) }
-    ensures result_value { result.0 ≡ depth_addition length.0 depth.0 }
+pub fn addition(length: Length, depth: Span) -> Freeboard
+    requires { depth.0 ≤ 60000 }
+    ensures result_value { result.0 ≡ depth_addition length.mm depth.0 }
     ensures result_bound { result.0 ≤ 15000000 }
 {
-    let l = length.0;
+    let l = length.mm;
     let d = depth.0;
     if l >= 15 * d {
         return Freeboard(0);
@@ -25,12 +25,12 @@ pub fn addition(length: Span, depth: Span) -> Freeboard
 
 // What is taken, in the ratio of heights of the house amidships, which is 0 where there is none. It is rounded once: the ratio is in the one quotient.
 #[tactic(auto, using(crate::proofs::Depth31::reduction_deep, crate::proofs::Depth31::reduction_none, crate::proofs::Depth31::reduction_to_120, crate::proofs::Depth31::reduction_from_120, crate::proofs::Depth31::reduction_most))]
-pub fn reduction(length: Span, depth: Span, ratio: Ratio) -> Freeboard
-    requires { (length.0 ≤ 365000) × (depth.0 ≤ 60000) × (ratio.top ≤ ratio.bottom) × (1 ≤ ratio.bottom) × (ratio.bottom ≤ 2 ^ 27) }
-    ensures result_value { result.0 ≡ depth_reduction length.0 depth.0 (frac ratio.top ratio.bottom) }
+pub fn reduction(length: Length, depth: Span, ratio: Ratio) -> Freeboard
+    requires { (depth.0 ≤ 60000) × (ratio.top ≤ ratio.bottom) × (1 ≤ ratio.bottom) × (ratio.bottom ≤ 2 ^ 27) }
+    ensures result_value { result.0 ≡ depth_reduction length.mm depth.0 (frac ratio.top ratio.bottom) }
     ensures result_bound { result.0 ≤ 6100000 }
 {
-    let l = length.0;
+    let l = length.mm;
     let d = depth.0;
     let top = ratio.top;
     let bottom = ratio.bottom;

@@ -2,16 +2,16 @@
 ghost use Rattle.std.specs.Prelude.{◌≡◌, ◌≤◌};
 ghost use Rattle.corrections.specs.Short29.{short_b};
 
-use units::{Effective, Freeboard, Span};
+use units::{Effective, Freeboard, Length};
 use whole::mul_div_up;
 
 #[tactic(auto, using(crate::proofs::Short29::short_quotient, crate::proofs::Short29::short_long, crate::proofs::Short29::short_enclosed, crate::proofs::Short29::short_most))]
-pub fn addition(length: Span, effective: Effective) -> Freeboard
-    requires { (24000 ≤ length.0) × (length.0 ≤ 365000) }
-    ensures result_value { result.0 ≡ short_b length.0 effective.0 }
+pub fn addition(length: Length, effective: Effective) -> Freeboard
+    requires { 24000 ≤ length.mm }
+    ensures result_value { result.0 ≡ short_b length.mm effective.0 }
     ensures result_bound { result.0 ≤ 199500 }
 {
-    let l = length.0;
+    let l = length.mm;
     let e = effective.0;
     if l >= 100000 {
         return Freeboard(0);

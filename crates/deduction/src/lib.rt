@@ -7,17 +7,17 @@ ghost use Rattle.whole.specs.Pick.{pick};
 ghost use Rattle.deduction.specs.Deduction37.{full, of_full, lacks_forecastle};
 ghost use Rattle.deduction.specs.Tenth37.{tenth, share_from};
 
-use units::{Effective, Freeboard, Span, Unrounded, freeboard_of_mm, sum};
+use units::{Effective, Freeboard, Length, Unrounded, freeboard_of_mm, sum};
 use whole::{lesser, mul_div_down};
 
 // The full amount, for a ship whose houses cover all of its length.
 #[tactic(auto, using(crate::proofs::Deduction37::full_to_85, crate::proofs::Deduction37::full_to_122, crate::proofs::Deduction37::full_from_122))]
-pub fn full_amount(length: Span) -> Freeboard
-    requires { (24000 ≤ length.0) × (length.0 ≤ 365000) }
-    ensures result_value { result.0 ≡ full length.0 }
+pub fn full_amount(length: Length) -> Freeboard
+    requires { 24000 ≤ length.mm }
+    ensures result_value { result.0 ≡ full length.mm }
     ensures result_bound { result.0 ≤ 1070000 }
 {
-    let l = length.0;
+    let l = length.mm;
     if l < 85000 {
         return sum(
             freeboard_of_mm(350),
@@ -35,24 +35,24 @@ pub fn full_amount(length: Span) -> Freeboard
 
 // The tenth of L in which E ends: the percentages at it and at the next are those that `share` asks for.
 #[tactic(auto, unfolding(crate::specs::Tenth37::tenth))]
-pub fn tenth_of(length: Span, effective: Effective) -> usize
-    requires { (24000 ≤ length.0) × (length.0 ≤ 365000) }
-    ensures value { result ≡ tenth length.0 effective.0 }
+pub fn tenth_of(length: Length, effective: Effective) -> usize
+    requires { 24000 ≤ length.mm }
+    ensures value { result ≡ tenth length.mm effective.0 }
     ensures upper_bound { result ≤ 9 }
 {
-    let l = length.0;
+    let l = length.mm;
     let e = effective.0;
     lesser(e / (100 * l), 9) as usize
 }
 
 // The share of the full amount, in millionths, between the percentages p and q (in tenths of a per cent) at the ends of E's tenth.
 #[tactic(auto, using(crate::proofs::Deduction37::tenth_begins, crate::proofs::Deduction37::share_of_two, crate::proofs::Deduction37::share_from_most))]
-pub fn share(p: u64, q: u64, length: Span, effective: Effective) -> u64
-    requires { (p ≤ q) × (q ≤ 1000) × (24000 ≤ length.0) × (length.0 ≤ 365000) × (effective.0 ≤ 1000 * length.0) }
-    ensures value { result ≡ share_from p q length.0 effective.0 }
+pub fn share(p: u64, q: u64, length: Length, effective: Effective) -> u64
+    requires { (p ≤ q) × (q ≤ 1000) × (24000 ≤ length.mm) × (effective.0 ≤ 1000 * length.mm) }
+    ensures value { result ≡ share_from p q length.mm effective.0 }
     ensures upper_bound { result ≤ 1000000 }
 {
-    let l = length.0;
+    let l = length.mm;
     let e = effective.0;
     let u = 100 * l;
     let j = tenth_of(length, effective) as u64;
@@ -61,9 +61,9 @@ pub fn share(p: u64, q: u64, length: Span, effective: Effective) -> u64
 
 // So many millionths of the full amount.
 #[tactic(auto, unfolding(crate::specs::Deduction37::of_full))]
-pub fn of_full(length: Span, share: u64) -> Freeboard
-    requires { (24000 ≤ length.0) × (length.0 ≤ 365000) × (share ≤ 1000000) }
-    ensures result_value { result.0 ≡ of_full length.0 share }
+pub fn of_full(length: Length, share: u64) -> Freeboard
+    requires { (24000 ≤ length.mm) × (share ≤ 1000000) }
+    ensures result_value { result.0 ≡ of_full length.mm share }
     ensures result_bound { result.0 ≤ 1070000 }
 {
     let f = full_amount(length);
@@ -73,13 +73,13 @@ pub fn of_full(length: Span, share: u64) -> Freeboard
 
 // The deduction, or none where the ship is of type B (`b`) and its forecastle is short, or missing and so of length 0. The fraction itself is tested.
 #[tactic(auto, using(crate::proofs::Deduction37::lacks_quotient), unfolding(whole::specs::Pick::pick))]
-pub fn if_granted(b: bool, forecastle: Unrounded, length: Span, deduction: Freeboard) -> Freeboard
-    requires { (1 ≤ forecastle.bottom) × (forecastle.bottom ≤ 2 ^ 35) × (length.0 ≤ 365000) }
-    ensures result_value { result.0 ≡ pick (lacks_forecastle b (frac forecastle.top forecastle.bottom) length.0) 0 deduction.0 }
+pub fn if_granted(b: bool, forecastle: Unrounded, length: Length, deduction: Freeboard) -> Freeboard
+    requires { (1 ≤ forecastle.bottom) × (forecastle.bottom ≤ 2 ^ 35) }
+    ensures result_value { result.0 ≡ pick (lacks_forecastle b (frac forecastle.top forecastle.bottom) length.mm) 0 deduction.0 }
     ensures result_le_deduction { result.0 ≤ deduction.0 }
 {
     let bottom = forecastle.bottom;
-    let l = length.0;
+    let l = length.mm;
     if b & (forecastle.top < 70 * l * bottom) {
         return Freeboard(0);
     }

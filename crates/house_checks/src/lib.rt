@@ -9,7 +9,7 @@ ghost use Rattle.ship.specs.declared.rule.Rule.TheVariants.{EndsAndHeight, SetIn
 use ship::House;
 use ship::refusal::Refusal;
 use ship::rule::Rule;
-use units::{Span, Station};
+use units::{Length, Span, Station};
 
 // How far a house may stand out beyond either perpendicular, the greatest height of thirteen bits, and the greatest breadth of sixteen, in millimetres.
 const BEYOND: u64 = 20000;
@@ -21,15 +21,14 @@ const WIDEST: u64 = 65535;
 // Check 9: the house has a length, some of it lies forward of the after perpendicular and some abaft the fore one, it stands out no farther than it
 // may, and its height is in its range. A length that would be negative reads as 0.
 #[tactic(auto, using(std::proofs::lemmas::Bool::Decides::nat_tests))]
-fn bad_ends(l: Span, h: House) -> bool
-    requires { l.0 ≤ 365000 }
-    ensures { result ≡ bad_ends l.0 h }
+fn bad_ends(l: Length, h: House) -> bool
+    ensures { result ≡ bad_ends l.mm h }
 {
     let aft = h.aft;
     let fore = h.fore;
     let height = h.height.0;
     let ap = units::forward_of_ap(Span(0));
-    let fp = units::forward_of_ap(l);
+    let fp = l.fore_perpendicular();
     let length = units::between(aft, fore).0;
     let forward_of_ap = units::between(ap, fore).0;
     let abaft_of_fp = units::between(aft, fp).0;
@@ -61,14 +60,13 @@ fn bad_breadths(h: House) -> bool
 
 // Check 10: a raised quarterdeck is enclosed, begins at the after perpendicular or abaft it, and ends abaft the fore one.
 #[tactic(auto, using(std::proofs::lemmas::Bool::Decides::nat_tests))]
-fn bad_quarterdeck(l: Span, h: House) -> bool
-    requires { l.0 ≤ 365000 }
-    ensures { result ≡ bad_quarterdeck l.0 h }
+fn bad_quarterdeck(l: Length, h: House) -> bool
+    ensures { result ≡ bad_quarterdeck l.mm h }
 {
     let aft = h.aft;
     let fore = h.fore;
     let ap = units::forward_of_ap(Span(0));
-    let fp = units::forward_of_ap(l);
+    let fp = l.fore_perpendicular();
     let begins = units::between(ap, aft).0;
     let short_of_fp = units::between(fore, fp).0;
     h.quarterdeck & (!h.enclosed | (0 < begins) | (short_of_fp < 1))
@@ -76,9 +74,8 @@ fn bad_quarterdeck(l: Span, h: House) -> bool
 
 // Whether a house breaks a rule; `before` is the fore end of the house before it. The rule is named, no closure: contracts speak of a rule by its name, and of every rule.
 #[tactic(auto, unfolding(ship::specs::Checks::breaks))]
-pub fn house_breaks(rule: Rule, l: Span, before: Station, h: House) -> bool
-    requires { l.0 ≤ 365000 }
-    ensures { result ≡ breaks rule l.0 before.0 h }
+pub fn house_breaks(rule: Rule, l: Length, before: Station, h: House) -> bool
+    ensures { result ≡ breaks rule l.mm before.0 h }
 {
     match rule {
         Rule::EndsAndHeight => bad_ends(l, h),
@@ -89,9 +86,8 @@ pub fn house_breaks(rule: Rule, l: Span, before: Station, h: House) -> bool
 }
 
 // Whether a house breaks any of the four.
-pub fn breaks_any(l: Span, before: Station, h: House) -> bool
-    requires { l.0 ≤ 365000 }
-    ensures { result ≡ (breaks EndsAndHeight l.0 before.0 h || breaks SetInSides l.0 before.0 h || breaks RaisedQuarterdeck l.0 before.0 h || breaks Follows l.0 before.0 h) }
+pub fn breaks_any(l: Length, before: Station, h: House) -> bool
+    ensures { result ≡ (breaks EndsAndHeight l.mm before.0 h || breaks SetInSides l.mm before.0 h || breaks RaisedQuarterdeck l.mm before.0 h || breaks Follows l.mm before.0 h) }
 {
     let ends = house_breaks(Rule::EndsAndHeight, l, before, h);
     let sides = house_breaks(Rule::SetInSides, l, before, h);

@@ -8,7 +8,7 @@ ghost use Rattle.whole.specs.Frac.{◌≈f◌, ◌+f◌, ◌*f◌, frac};
 ghost use Rattle.units.specs.Datum.{lift, Lifted};
 ghost use Rattle.sheer.specs.Sheer.{weighted, standard_after, standard_forward, above, lacks, after_counts, forward_share, excess, deficiency, after_sum, forward_sum};
 
-use units::{Freeboard, LIFT, Ordinate, Span};
+use units::{Freeboard, LIFT, Length, Ordinate};
 
 // An ordinate has LIFT added to it, and a half adds up 1 + 3 + 3 of them. Sums are in 30000ths of a millimetre, in which the standard is whole.
 const LIFT7: u64 = 30000 * (7 * LIFT);
@@ -62,17 +62,17 @@ fn down(p: u64, q: u64, d: u64) -> Mean
 struct Halves {
     after: u64,
     forward: u64,
-    l: Span,
-    ghost in_range: { (after ≤ 14 * lift) × (forward ≤ 14 * lift) × (l.0 ≤ 365000) },
+    l: Length,
+    ghost in_range: { (after ≤ 14 * lift) × (forward ≤ 14 * lift) },
 }
 
 impl Halves {
     // What of an after excess counts, in 240ths of a um: none where the forward half lacks sheer.
     fn after_counts(self) -> u64
-        ensures frac { frac result 240 ≈f after_counts self.after self.forward self.l.0 }
+        ensures frac { frac result 240 ≈f after_counts self.after self.forward self.l.mm }
         ensures upper_bound { result ≤ 1721000000 }
     {
-        let mm = self.l.0;
+        let mm = self.l.mm;
         if 30000 * self.forward < LIFT7 + 1334 * (mm + 30000) {
             return 0;
         }
@@ -82,10 +82,10 @@ impl Halves {
     // What of a forward excess counts: none where the after half has 50 per cent of its standard w or less, all from 75 on. There w cancels; it stays in the
     // divisor only where an excess counts in part.
     fn forward_counts(self) -> Credit
-        ensures frac { frac result.top (240 * result.bottom) ≈f above self.forward (standard_forward self.l.0) *f forward_share self.after (standard_after self.l.0) }
+        ensures frac { frac result.top (240 * result.bottom) ≈f above self.forward (standard_forward self.l.mm) *f forward_share self.after (standard_after self.l.mm) }
         ensures bottom_nonzero { (0 < result.bottom) × (result.bottom ≤ 263465000) × (result.top ≤ 1721000000 * result.bottom) }
     {
-        let mm = self.l.0;
+        let mm = self.l.mm;
         let w = 667 * (mm + 30000);
         let excess = whole::less(30000 * self.forward, LIFT7 + 1334 * (mm + 30000));
         // So many of w: 4 times what the after sum has above 50 per cent of w, which is w at 75 per cent.
@@ -108,10 +108,10 @@ impl Halves {
 
     // What both halves lack, in 240ths of a um.
     fn lacks(self) -> u64
-        ensures frac { frac result 240 ≈f lacks self.after (standard_after self.l.0) +f lacks self.forward (standard_forward self.l.0) }
+        ensures frac { frac result 240 ≈f lacks self.after (standard_after self.l.mm) +f lacks self.forward (standard_forward self.l.mm) }
         ensures upper_bound { result ≤ 4300000000 }
     {
-        let mm = self.l.0;
+        let mm = self.l.mm;
         whole::less(LIFT7 + 667 * (mm + 30000), 30000 * self.after)
             + whole::less(LIFT7 + 1334 * (mm + 30000), 30000 * self.forward)
     }
@@ -119,7 +119,7 @@ impl Halves {
     // The mean of both halves, rounded down. Where the credit's bottom is 1 it is over the constant 480, by which the compiler divides with a product, as long as it
     // works `down` in place.
     fn mean(self) -> Mean
-        ensures deficiency_value { (result.deficiency.0 ≡ deficiency self.after self.forward self.l.0) × (result.excess.0 ≡ excess self.after self.forward self.l.0) }
+        ensures deficiency_value { (result.deficiency.0 ≡ deficiency self.after self.forward self.l.mm) × (result.excess.0 ≡ excess self.after self.forward self.l.mm) }
         ensures deficiency_bound { (result.deficiency.0 ≤ 9000000) × (result.excess.0 ≤ 7200000) }
     {
         let credit = self.forward_counts();
@@ -135,9 +135,9 @@ impl Halves {
 
 // 38(8) to (11): the mean. The ordinates are AP, L/6, L/3 from AP, then L/3, L/6 from FP, FP. No house changes it.
 #[tactic(auto, unfolding(crate::specs::Sheer::after_sum, crate::specs::Sheer::forward_sum))]
-pub fn mean_sheer(l: Span, ordinates: [Ordinate; 6]) -> Mean
-    requires { (l.0 ≤ 365000) × Lifted ordinates }
-    ensures deficiency_value { (result.deficiency.0 ≡ deficiency (after_sum ordinates) (forward_sum ordinates) l.0) × (result.excess.0 ≡ excess (after_sum ordinates) (forward_sum ordinates) l.0) }
+pub fn mean_sheer(l: Length, ordinates: [Ordinate; 6]) -> Mean
+    requires { Lifted ordinates }
+    ensures deficiency_value { (result.deficiency.0 ≡ deficiency (after_sum ordinates) (forward_sum ordinates) l.mm) × (result.excess.0 ≡ excess (after_sum ordinates) (forward_sum ordinates) l.mm) }
     ensures deficiency_bound { (result.deficiency.0 ≤ 9000000) × (result.excess.0 ≤ 7200000) }
 {
     let after = half(ordinates[0], ordinates[1], ordinates[2]);

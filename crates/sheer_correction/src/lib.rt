@@ -6,7 +6,7 @@ ghost use Rattle.std.specs.Prelude.{◌≡◌, ◌*◌, ◌≤◌};
 ghost use Rattle.sheer.specs.Sheer.{addition, deduction};
 
 use sheer::Mean;
-use units::{Freeboard, Span};
+use units::{Freeboard, Length, Span};
 
 // The correction in its two parts.
 #[derive(Clone, Copy)]
@@ -18,20 +18,20 @@ pub struct Correction {
 // L, what enclosed houses cover of it (S), and the cover's reach in tenths of a millimetre.
 #[derive(Clone, Copy)]
 struct Cover {
-    l: Span,
+    l: Length,
     s: Span,
     reach: u64,
-    ghost in_range: { (24000 ≤ l.0) × (l.0 ≤ 365000) × (s.0 ≤ l.0) × (reach ≤ 2 * l.0) },
+    ghost in_range: { (24000 ≤ l.mm) × (s.0 ≤ l.mm) × (reach ≤ 2 * l.mm) },
 }
 
 impl Cover {
     // What a deficiency adds.
     fn add(self, deficiency: Freeboard) -> Freeboard
         requires { deficiency.0 ≤ 9000000 }
-        ensures result_value { result.0 ≡ addition deficiency.0 self.l.0 self.s.0 }
+        ensures result_value { result.0 ≡ addition deficiency.0 self.l.mm self.s.0 }
         ensures result_bound { result.0 ≤ 9000000 }
     {
-        let mm = self.l.0;
+        let mm = self.l.mm;
         let um = deficiency.0;
         if um == 0 {
             return Freeboard(0);
@@ -42,10 +42,10 @@ impl Cover {
     // What an excess deducts.
     fn deduct(self, excess: Freeboard) -> Freeboard
         requires { excess.0 ≤ 7200000 }
-        ensures result_value { result.0 ≡ deduction excess.0 self.l.0 self.s.0 self.reach }
+        ensures result_value { result.0 ≡ deduction excess.0 self.l.mm self.s.0 self.reach }
         ensures result_bound { result.0 ≤ 456250 }
     {
-        let mm = self.l.0;
+        let mm = self.l.mm;
         let covered = excess.0 * self.reach;
         if covered == 0 {
             return Freeboard(0);
@@ -57,10 +57,10 @@ impl Cover {
 
 // 38(14) to (16): what a mean adds and deducts. `s` is the length that enclosed houses cover; `reach` is the cover's, before amidships and
 // abaft, in tenths of a millimetre.
-pub fn correct(m: Mean, l: Span, s: Span, reach: u64) -> Correction
+pub fn correct(m: Mean, l: Length, s: Span, reach: u64) -> Correction
     requires deficiency_bound { (m.deficiency.0 ≤ 9000000) × (m.excess.0 ≤ 7200000) }
-    requires le_l { (24000 ≤ l.0) × (l.0 ≤ 365000) × (s.0 ≤ l.0) × (reach ≤ 2 * l.0) }
-    ensures added_value { (result.added.0 ≡ addition m.deficiency.0 l.0 s.0) × (result.deducted.0 ≡ deduction m.excess.0 l.0 s.0 reach) }
+    requires le_l { (24000 ≤ l.mm) × (s.0 ≤ l.mm) × (reach ≤ 2 * l.mm) }
+    ensures added_value { (result.added.0 ≡ addition m.deficiency.0 l.mm s.0) × (result.deducted.0 ≡ deduction m.excess.0 l.mm s.0 reach) }
     ensures added_bound { (result.added.0 ≤ 9000000) × (result.deducted.0 ≤ 456250) }
 {
     let cover = Cover { l, s, reach };

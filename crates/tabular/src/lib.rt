@@ -6,7 +6,7 @@ ghost use Rattle.std.specs.List.Sorted.{IsNonDecreasing};
 ghost use Rattle.tabular.specs.Tabular.{row_of, tabular, table_a, table_b, covers_add};
 
 use tables::{table27, table28a, table28b};
-use units::{Freeboard, Span};
+use units::{Freeboard, Length, Span};
 
 // The first metre of tables 28.1 and 28.2, and that of 27.1.
 const FIRST: u64 = 24;
@@ -31,21 +31,21 @@ fn tabular(table: &[u16], first: u64, l: Span) -> Freeboard
 }
 
 // The tabular freeboard of a type A ship of length `l`.
-pub fn tabular_a(l: Span) -> Freeboard
-    requires { (24000 ≤ l.0) × (l.0 ≤ 365000) }
-    ensures result_value { result.0 ≡ table_a l.0 }
+pub fn tabular_a(l: Length) -> Freeboard
+    requires { 24000 ≤ l.mm }
+    ensures result_value { result.0 ≡ table_a l.mm }
     ensures result_bound { result.0 ≤ 6000000 }
 {
-    tabular(table28a::table(), FIRST, l)
+    tabular(table28a::table(), FIRST, l.span())
 }
 
 // The tabular freeboard of a type B ship of length `l`.
-pub fn tabular_b(l: Span) -> Freeboard
-    requires { (24000 ≤ l.0) × (l.0 ≤ 365000) }
-    ensures result_value { result.0 ≡ table_b l.0 }
+pub fn tabular_b(l: Length) -> Freeboard
+    requires { 24000 ≤ l.mm }
+    ensures result_value { result.0 ≡ table_b l.mm }
     ensures result_bound { result.0 ≤ 6000000 }
 {
-    tabular(table28b::table(), FIRST, l)
+    tabular(table28b::table(), FIRST, l.span())
 }
 
 // What portable covers add for a ship of length `l`. The table's first row is for its length and below.

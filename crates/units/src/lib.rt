@@ -22,6 +22,29 @@ pub const AP: u64 = 1048576;
 #[derive(Clone, Copy, PartialEq, Eq, PartialOrd, Ord)]
 pub struct Span(pub u64);
 
+// The ship's length L, from the after perpendicular to the fore one: at most 365 m wherever a regulation works with it.
+#[derive(Clone, Copy)]
+pub struct Length {
+    pub mm: u64,
+    pub ghost within: { mm ≤ 365000 },
+}
+
+impl Length {
+    // As any length.
+    pub fn span(self) -> Span
+        ensures { result.0 ≡ self.mm }
+    {
+        Span(self.mm)
+    }
+
+    // The fore perpendicular, at its end.
+    pub fn fore_perpendicular(self) -> Station
+        ensures { result.0 ≡ station_of self.mm }
+    {
+        forward_of_ap(self.span())
+    }
+}
+
 // An effective length, in whole micrometres.
 #[derive(Clone, Copy, PartialEq, Eq, PartialOrd, Ord)]
 pub struct Effective(pub u64);

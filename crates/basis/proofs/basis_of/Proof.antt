@@ -16,7 +16,7 @@ basis_of_spec =
     (λ c κs. search rules)
     (λ c.
     let o = c.before in
-    let l = o.before.args.l.0 in
+    let l = o.before.args.l.mm in
     ((o.line_of-line.ensures.0, sym (ap (λ (k : ℕ). (basis_of k l).floor) c.if-kind-eq-PORTABLE_COVERS.true)), (o.line_of-line.ensures.1, omega arith)))
     (λ c.
     let o = c.before in

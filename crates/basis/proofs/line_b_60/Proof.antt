@@ -20,7 +20,7 @@ line_b_60_spec =
     let d = m.before in
     let b = d.before in
     let a = b.before in
-    let l = a.before.args.l.0 in (
+    let l = a.before.args.l.mm in (
       c.difference.ensures
           ∙ rw (m.mul_div_down.ensures, d.difference-above.ensures, b.tabular_b-b.ensures.0, a.tabular_a-a.ensures.0) (sym (reduced_code 60 l (omega arith) (omega arith))),
       omega (arith, c.difference.ensures, b.tabular_b-b.ensures.1),

@@ -21,7 +21,7 @@ line_of_spec =
     (λ c κs. search rules)
     (λ c.
     let t = c.before in
-    let l = t.before.before.args.l.0 in
+    let l = t.before.before.args.l.mm in
     (c.line_b_60.ensures.0 ∙ sym (ap (λ (k : ℕ). (basis_of k l).line) t.if-kind-eq-B_60.true), omega (arith, c.line_b_60.ensures.1)))
     (λ c κs. search rules)
     (λ c κs.
@@ -32,7 +32,7 @@ line_of_spec =
     let v = c.before in
     let t = v.before in
     let b = t.before in
-    let l = b.before.before.before.args.l.0 in (
+    let l = b.before.before.before.args.l.mm in (
       c.sum.ensures ∙ (λ i. b.tabular_b-b.ensures.0 i + v.covers_add.ensures.0 i) ∙ sym (ap (λ (k : ℕ). (basis_of k l).line) t.if-kind-eq-PORTABLE_COVERS.true),
       omega (arith, c.sum.ensures, b.tabular_b-b.ensures.1, v.covers_add.ensures.1),
     ))

@@ -9,4 +9,4 @@ pub tabular-requires-clause-row_in_table : goal.tabular-requires-clause-row_in_t
 tabular-requires-clause-row_in_table c = rw (c.table.ensures, rows_b.count) (omega arith)
 
 pub returns-clause-result_bound : goal.returns-clause-result_bound
-returns-clause-result_bound c = rw (c.tabular.ensures, c.table.ensures) (omega (arith, at_most rows_b 24 c.args.l.0 (omega arith)))
+returns-clause-result_bound c = rw (c.tabular.ensures, c.table.ensures, c.span.ensures) (omega (arith, at_most rows_b 24 c.args.l.mm (omega arith)))

@@ -4,8 +4,8 @@ use Rattle.bow.proofs.Measures.cubic.Goals as goal
 
 pub returns-clause-frac : goal.returns-clause-frac
 unfolding cubic
-returns-clause-frac c = b1_words c.args.self.l.0
+returns-clause-frac c = b1_words c.args.self.l.mm
 
 pub returns-clause-upper_bound : goal.returns-clause-upper_bound
 unfolding cubic
-returns-clause-upper_bound c = cubic_most c.args.self.l.0 c.args.self.in_range.0
+returns-clause-upper_bound c = cubic_most c.args.self.l.mm c.args.self.l.within

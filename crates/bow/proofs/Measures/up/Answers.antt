@@ -21,9 +21,9 @@ pub returns-clause-result_value : goal.returns-clause-result_value
 unfolding higher
 returns-clause-result_value c =
     let s = c.args.self in
-    let b1 : c.div_up-b1.result ≡ ceil (exact_b1 s.l.0) = c.div_up-b1.ensures ∙ ceil_of _ 5000000000 {x = exact_b1 s.l.0} (omega arith) c.cubic.ensures.frac in
-    let b2 : c.div_up-b2.result ≡ b2_above s.l.0 s.m.0 s.cb s.cwf =
-    c.div_up-b2.ensures ∙ rw c.less.ensures (above_quotient s.l.0 s.m.0 s.cb s.cwf _ _ (omega arith) c.rise.ensures.frac c.fall.ensures.frac) in
+    let b1 : c.div_up-b1.result ≡ ceil (exact_b1 s.l.mm) = c.div_up-b1.ensures ∙ ceil_of _ 5000000000 {x = exact_b1 s.l.mm} (omega arith) c.cubic.ensures.frac in
+    let b2 : c.div_up-b2.result ≡ b2_above s.l.mm s.m.0 s.cb s.cwf =
+    c.div_up-b2.ensures ∙ rw c.less.ensures (above_quotient s.l.mm s.m.0 s.cb s.cwf _ _ (omega arith) c.rise.ensures.frac c.fall.ensures.frac) in
     rw (c.mul_div_up.ensures, b1, b2) refl
 
 pub returns-clause-result_bound : goal.returns-clause-result_bound

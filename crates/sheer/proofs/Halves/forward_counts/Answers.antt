@@ -9,14 +9,14 @@ overflow_mul-counted c = omega (arith, mul_most c.less-excess.result c.less-part
 pub returns-then-counted-eq0-clause-frac : goal.returns-then-counted-eq0-clause-frac
 returns-then-counted-eq0-clause-frac c =
     let s = c.args.self in
-    credit_none s.after s.forward s.l.0 c.less-excess.result c.less-part.result c.less-excess.ensures c.less-part.ensures c.if-counted-eq0.true
+    credit_none s.after s.forward s.l.mm c.less-excess.result c.less-part.result c.less-excess.ensures c.less-part.ensures c.if-counted-eq0.true
 
 pub returns-then-w-part-clause-frac : goal.returns-then-w-part-clause-frac
 returns-then-w-part-clause-frac c =
     let s = c.args.self in
-    credit_whole s.after s.forward s.l.0 c.less-excess.result c.less-part.result c.less-excess.ensures c.less-part.ensures c.if-w-part.true
+    credit_whole s.after s.forward s.l.mm c.less-excess.result c.less-part.result c.less-excess.ensures c.less-part.ensures c.if-w-part.true
 
 pub returns-clause-frac : goal.returns-clause-frac
 returns-clause-frac c =
     let s = c.args.self in
-    credit_part s.after s.forward s.l.0 c.less-excess.result c.less-part.result c.less-excess.ensures c.less-part.ensures (omega arith)
+    credit_part s.after s.forward s.l.mm c.less-excess.result c.less-part.result c.less-excess.ensures c.less-part.ensures (omega arith)

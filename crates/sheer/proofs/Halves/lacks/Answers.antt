@@ -8,7 +8,7 @@ use Rattle.sheer.proofs.Halves.lacks.Goals as goal
 pub returns-clause-frac : goal.returns-clause-frac
 returns-clause-frac c =
     let s = c.args.self in
-    let L = s.l.0 in
+    let L = s.l.mm in
     let a : frac c.less.result 240 ≈f lacks s.after (standard_after L) =
     rw c.less.ensures (lacks_same s.after (667 * (L + 30000)) (standard_after L) (after_same L)) in
     let f : frac c.less-2.result 240 ≈f lacks s.forward (standard_forward L) =

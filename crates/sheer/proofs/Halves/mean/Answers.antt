@@ -7,7 +7,7 @@ returns-then-b-eq1-clause-deficiency_value c =
     let s = c.args.self in
     let credit = c.forward_counts-credit in
     let m =
-    mean_quotients s.after s.forward s.l.0 c.after_counts.result credit.result.top c.lacks.result credit.result.bottom 480 (omega arith) (omega arith)
+    mean_quotients s.after s.forward s.l.mm c.after_counts.result credit.result.top c.lacks.result credit.result.bottom 480 (omega arith) (omega arith)
     c.after_counts.ensures.frac
     credit.ensures.frac
     c.lacks.ensures.frac in
@@ -18,7 +18,7 @@ returns-clause-deficiency_value c =
     let s = c.args.self in
     let credit = c.forward_counts-credit in
     let m =
-    mean_quotients s.after s.forward s.l.0 c.after_counts.result credit.result.top c.lacks.result credit.result.bottom (480 * credit.result.bottom) (omega arith) (omega arith)
+    mean_quotients s.after s.forward s.l.mm c.after_counts.result credit.result.top c.lacks.result credit.result.bottom (480 * credit.result.bottom) (omega arith) (omega arith)
     c.after_counts.ensures.frac
     credit.ensures.frac
     c.lacks.ensures.frac in

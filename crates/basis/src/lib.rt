@@ -27,6 +27,7 @@ const LEAST_WITH_COVERS: u64 = 150;
 const SPARED: u64 = 60;
 
 // The line of a B-60 ship. What it is spared is rounded down, so that the line is rounded up.
+#[tactic(auto, using(crate::proofs::Laws::reduced_code))]
 fn line_b_60(l: Length) -> Freeboard
     requires { 24000 ≤ l.mm }
     ensures result_value { result.0 ≡ ceil (exact_reduced 60 l.mm) }
@@ -40,6 +41,7 @@ fn line_b_60(l: Length) -> Freeboard
 }
 
 // The line of a type at a length. A B-100 ship is spared all of what B is above A: A is left.
+#[tactic(auto, using(crate::proofs::Laws::line_a, crate::proofs::Laws::line_b), unfolding(crate::specs::Basis::basis_of))]
 fn line_of(kind: u64, l: Length) -> Freeboard
     requires le_l { 24000 ≤ l.mm }
     requires kind_le_kind_covers { (kind ≤ kind_covers) × (kind ≡ kind_covers → l.mm ≤ 200000) }
@@ -60,6 +62,7 @@ fn line_of(kind: u64, l: Length) -> Freeboard
 }
 
 // What a type decides for a ship of length `l`.
+#[tactic(auto, using(crate::proofs::Laws::floor_of), unfolding(crate::specs::Basis::basis_of))]
 pub fn basis_of(kind: u64, l: Length) -> Basis
     requires le_l { 24000 ≤ l.mm }
     requires kind_le_kind_covers { (kind ≤ kind_covers) × (kind ≡ kind_covers → l.mm ≤ 200000) }

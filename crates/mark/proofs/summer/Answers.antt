@@ -1,6 +1,5 @@
-use Prim.Native.Nat.{◌^◌}
 use native.Mathlib.Omega.{arith}
-use Rattle.whole.proofs.Divide.{ceil_most}
+use Rattle.whole.proofs.Divide.{ceil_lt}
 use Rattle.mark.proofs.Bound.{mark_quotient}
 use Rattle.mark.proofs.summer.Goals as goal
 
@@ -8,4 +7,4 @@ pub returns-clause-value : goal.returns-clause-value
 returns-clause-value c = let a = c.args in rw (← mark_quotient a.floor a.added.0 a.taken.0 a.bow.0) (cc)
 
 pub returns-clause-upper_bound : goal.returns-clause-upper_bound
-returns-clause-upper_bound c = omega (arith, ceil_most c.greater-freeboard.result.0 1000 (2 ^ 50) (omega arith) (omega arith))
+returns-clause-upper_bound c = omega (arith, ceil_lt)

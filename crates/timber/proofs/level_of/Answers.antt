@@ -3,4 +3,4 @@ use Rattle.whole.proofs.Divide.{ceil_lt}
 use Rattle.timber.proofs.level_of.Goals as goal
 
 pub returns-clause-up_bound : goal.returns-clause-up_bound
-returns-clause-up_bound c = omega (arith, ceil_lt c.less.result 1000 (omega arith))
+returns-clause-up_bound c = omega (arith, ceil_lt)

@@ -3,7 +3,7 @@ use Rattle.whole.proofs.Divide.{ceil_lt}
 use Rattle.timber.proofs.winter_of.Goals as goal
 
 pub overflow_add-top : goal.overflow_add-top
-overflow_add-top c = omega (arith, ceil_lt c.args.d 36 (omega arith))
+overflow_add-top c = omega (arith, ceil_lt)
 
 pub minus-requires-2 : goal.minus-requires-2
-minus-requires-2 c = omega (arith, ceil_lt c.args.d 36 (omega arith))
+minus-requires-2 c = omega (arith, ceil_lt)

@@ -20,7 +20,7 @@ const WIDEST: u64 = 65535;
 
 // Check 9: the house has a length, some of it lies forward of the after perpendicular and some abaft the fore one, it stands out no farther than it
 // may, and its height is in its range. A length that would be negative reads as 0.
-#[tactic(auto, using(crate::proofs::Borders::ends_by_lengths))]
+#[tactic(auto, using(std::proofs::lemmas::Bool::Decides::nat_tests))]
 fn bad_ends(l: Span, h: House) -> bool
     requires { l.0 ≤ 365000 }
     ensures { result ≡ bad_ends l.0 h }
@@ -46,7 +46,7 @@ fn bad_ends(l: Span, h: House) -> bool
 
 // Check 23: a house's two breadths are both zero, or the house is no broader than the ship, and on neither side more than 4 per cent of the ship's breadth inside
 // it. A breadth beyond 16 bits is told first: its products might not fit.
-#[tactic(auto, using(crate::proofs::Borders::beyond, crate::proofs::Borders::within_bits))]
+#[tactic(auto, using(std::proofs::lemmas::Bool::Decides::nat_tests))]
 fn bad_breadths(h: House) -> bool
     ensures { result ≡ bad_breadths h }
 {
@@ -60,7 +60,7 @@ fn bad_breadths(h: House) -> bool
 }
 
 // Check 10: a raised quarterdeck is enclosed, begins at the after perpendicular or abaft it, and ends abaft the fore one.
-#[tactic(auto, using(crate::proofs::Borders::quarterdeck_by_lengths))]
+#[tactic(auto, using(std::proofs::lemmas::Bool::Decides::nat_tests))]
 fn bad_quarterdeck(l: Span, h: House) -> bool
     requires { l.0 ≤ 365000 }
     ensures { result ≡ bad_quarterdeck l.0 h }
@@ -74,7 +74,7 @@ fn bad_quarterdeck(l: Span, h: House) -> bool
     h.quarterdeck & (!h.enclosed | (0 < begins) | (short_of_fp < 1))
 }
 
-// Whether a house breaks a rule; `before` is the fore end of the house before it.
+// Whether a house breaks a rule; `before` is the fore end of the house before it. The rule is named, no closure: contracts speak of a rule by its name, and of every rule.
 #[tactic(auto, unfolding(ship::specs::Checks::breaks))]
 pub fn house_breaks(rule: Rule, l: Span, before: Station, h: House) -> bool
     requires { l.0 ≤ 365000 }

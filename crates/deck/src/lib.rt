@@ -8,6 +8,7 @@ ghost use Rattle.houses.specs.Amidships.{covers_amidships};
 ghost use Rattle.effective.specs.Unrounded.{ratio_of};
 ghost use Rattle.deck.specs.Deck.{deck_of, deck_with, FairDeck};
 
+use houses::Placed;
 use ship::House;
 use summed::Summed;
 use units::{Ratio, Span, Unrounded};
@@ -33,11 +34,11 @@ pub struct Deck {
 
 // The ratio of heights of the house amidships, with one more house before the others: its own, or the others'.
 #[tactic(auto, unfolding(whole::specs::Pick::pick))]
-fn amidships_with(l: Span, h: House, own: Ratio, others: Ratio) -> Ratio
-    requires { (l.0 ≤ 365000) × GoodHouse l.0 h }
-    ensures { result ≡ pick (covers_amidships l.0 h) own others }
+fn amidships_with(p: Placed, own: Ratio, others: Ratio) -> Ratio
+    requires { GoodHouse p.l.0 p.house }
+    ensures { result ≡ pick (covers_amidships p.l.0 p.house) own others }
 {
-    if houses::covers_amidships(l, h) {
+    if p.covers_amidships() {
         let top = own.top; // number by number: a choice between two structs would keep the deck in memory
         let bottom = own.bottom;
         return Ratio { top, bottom };
@@ -47,21 +48,21 @@ fn amidships_with(l: Span, h: House, own: Ratio, others: Ratio) -> Ratio
 
 // A deck with one more house before the others, of that ratio of heights.
 #[tactic(auto, unfolding(crate::specs::Deck::deck_with, whole::specs::Pick::pick))]
-pub fn with_house(l: Span, h: House, ratio: Ratio, d: Deck) -> Deck
-    requires { (l.0 ≤ 365000) × GoodHouse l.0 h × (ratio ≡ ratio_of l.0 h) × FairDeck l.0 d }
-    ensures { result ≡ deck_with l.0 h d }
+pub fn with_house(p: Placed, ratio: Ratio, d: Deck) -> Deck
+    requires { GoodHouse p.l.0 p.house × (ratio ≡ ratio_of p.l.0 p.house) × FairDeck p.l.0 d }
+    ensures { result ≡ deck_with p.l.0 p.house d }
 {
-    let part = houses::part(l, h);
-    let own = effective::effective_of(l, h, ratio);
+    let part = p.part();
+    let own = effective::effective_of(p, ratio);
     let s = Span(part.0 + d.s.0);
-    let effective = summed::with_one(h, own, d.effective);
-    let reach = houses::reach_of(l, h) + d.reach;
-    let amidships = amidships_with(l, h, ratio, d.amidships);
-    let forecastle = if houses::is_forecastle(l, h) {
+    let effective = summed::with_one(p.house, own, d.effective);
+    let reach = p.reach() + d.reach;
+    let amidships = amidships_with(p, ratio, d.amidships);
+    let forecastle = if p.is_forecastle() {
         Forecastle {
             effective: own,
             part,
-            height: h.height,
+            height: p.house.height,
         }
     } else {
         d.forecastle
@@ -105,8 +106,9 @@ pub fn deck_of(l: Span, hs: [House; 8], n: usize) -> Deck
     ensures fair_deck { FairDeck l.0 result }
 {
     let mut d = bare_deck(l);
-    for &h in hs[..n].iter().rev() {
-        d = with_house(l, h, effective::height_ratio(l, h), d);
+    for &house in hs[..n].iter().rev() {
+        let ratio = effective::height_ratio(l, house);
+        d = with_house(Placed { l, house }, ratio, d);
     }
     d
 }

@@ -8,9 +8,9 @@ ghost use Rattle.houses.specs.Height as Height;
 ghost use Rattle.houses.specs.Effective.{limited_length, breadth_ratio, exact_effective};
 ghost use Rattle.effective.specs.Unrounded.{standard_of, rising as rising_from, low_ordinary, low_raised, low_height, Sized, ratio_of, FairRatio, breadths_of, FairBreadths, unrounded_of, FairLength};
 
+use houses::Placed;
 use ship::House;
 use units::{Effective, Ratio, Span, Unrounded};
-use whole::lesser;
 
 // A standard height, size / per mm.
 #[derive(Clone, Copy)]
@@ -31,6 +31,7 @@ fn rising(a: u64, v: u64, r: u64, s: u64, l: u64) -> Standard
 }
 
 // 33: the standard height of a house that is no raised quarterdeck.
+#[tactic(auto, unfolding(crate::specs::Unrounded::low_ordinary, whole::specs::Pick::pick))]
 fn ordinary_height(l: u64) -> Standard
     ensures { result ≡ standard_of (low_ordinary l) }
 {
@@ -44,6 +45,7 @@ fn ordinary_height(l: u64) -> Standard
 }
 
 // 33: the standard height of a raised quarterdeck.
+#[tactic(auto, unfolding(crate::specs::Unrounded::low_raised, whole::specs::Pick::pick))]
 fn raised_height(l: u64) -> Standard
     ensures { result ≡ standard_of (low_raised l) }
 {
@@ -60,6 +62,7 @@ fn raised_height(l: u64) -> Standard
 }
 
 // 33: the standard height of a house.
+#[tactic(auto, unfolding(crate::specs::Unrounded::low_height, whole::specs::Pick::pick))]
 pub fn standard_height(l: Span, quarterdeck: bool) -> Standard
     ensures frac { frac result.size result.per ≈f Height.standard_height l.0 quarterdeck }
     ensures value { result ≡ standard_of (low_height l.0 quarterdeck) }
@@ -72,20 +75,20 @@ pub fn standard_height(l: Span, quarterdeck: bool) -> Standard
 }
 
 // 35: the length that counts in the effective length: a raised quarterdeck's is limited to 0.6 L.
-fn limited_length(l: Span, h: House) -> Effective
-    requires { l.0 ≤ 365000 }
-    ensures result_value { result.0 ≡ limited_length l.0 h }
-    ensures result_bound { result.0 ≤ 1000 * l.0 }
+#[tactic(auto, using(houses::proofs::Limits::limited_most), unfolding(houses::specs::Effective::limited_length, whole::specs::Pick::pick))]
+fn limited_length(p: Placed) -> Effective
+    ensures result_value { result.0 ≡ limited_length p.l.0 p.house }
+    ensures result_bound { result.0 ≤ 1000 * p.l.0 }
 {
-    let mm = l.0;
-    let um = units::effective_of(houses::part(l, h));
-    if h.quarterdeck {
-        return Effective(lesser(um.0, 600 * mm));
+    let um = units::effective_of(p.part());
+    if p.house.quarterdeck {
+        return Effective(um.0.min(600 * p.l.0));
     }
     um
 }
 
 // The ratio of a house's height to its standard height, 1 where it is no lower.
+#[tactic(auto, using(crate::proofs::Unrounded::ratio_exact, crate::proofs::Unrounded::fair_ratio), unfolding(crate::specs::Unrounded::lesser_of))]
 pub fn height_ratio(l: Span, h: House) -> Ratio
     requires { h.height.0 ≤ 8191 }
     ensures frac { frac result.top result.bottom ≈f Height.height_ratio l.0 h }
@@ -93,15 +96,14 @@ pub fn height_ratio(l: Span, h: House) -> Ratio
     ensures fair_ratio { FairRatio result }
 {
     let standard = standard_height(l, h.quarterdeck);
-    let size = standard.size;
-    let height = lesser(h.height.0 * standard.per, size);
     Ratio {
-        top: height,
-        bottom: size,
+        top: (h.height.0 * standard.per).min(standard.size),
+        bottom: standard.size,
     }
 }
 
 // 35: the ratio of a house's breadth to the ship's, 1 for full breadth.
+#[tactic(auto, unfolding(houses::specs::Effective::breadth_ratio, crate::specs::Unrounded::breadths_of, whole::specs::Pick::pick))]
 fn breadth_ratio(h: House) -> Ratio
     ensures frac { frac result.top result.bottom ≈f breadth_ratio h }
     ensures value { result ≡ breadths_of h }
@@ -117,18 +119,17 @@ fn breadth_ratio(h: House) -> Ratio
 
 // 35: the effective length of a house with that ratio of heights. All ordinary houses of full breadth have the same denominator, the numerator of their standard
 // height, so their numerators can be added.
-pub fn effective_of(l: Span, h: House, ratio: Ratio) -> Unrounded
-    requires { (l.0 ≤ 365000) × (ratio ≡ ratio_of l.0 h) × FairBreadths h }
-    ensures frac { frac result.top result.bottom ≈f exact_effective l.0 h }
-    ensures value { result ≡ unrounded_of l.0 h }
+#[tactic(auto, using(crate::proofs::Unrounded::unrounded_exact, crate::proofs::Unrounded::fair_unrounded), unfolding(crate::specs::Unrounded::top_of, crate::specs::Unrounded::bottom_of))]
+pub fn effective_of(p: Placed, ratio: Ratio) -> Unrounded
+    requires { (ratio ≡ ratio_of p.l.0 p.house) × FairBreadths p.house }
+    ensures frac { frac result.top result.bottom ≈f exact_effective p.l.0 p.house }
+    ensures value { result ≡ unrounded_of p.l.0 p.house }
     ensures fair_length { FairLength result }
 {
-    let length = limited_length(l, h);
-    let breadths = breadth_ratio(h);
-    let height = ratio.top;
-    let standard = ratio.bottom;
+    let length = limited_length(p);
+    let breadths = breadth_ratio(p.house);
     Unrounded {
-        top: length.0 * height * breadths.top,
-        bottom: standard * breadths.bottom,
+        top: length.0 * ratio.top * breadths.top,
+        bottom: ratio.bottom * breadths.bottom,
     }
 }

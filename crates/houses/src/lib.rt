@@ -12,60 +12,70 @@ ghost use Rattle.houses.specs.Amidships.{covers_amidships};
 
 use ship::House;
 use units::Span;
-use whole::{less, lesser};
 
-// 34: a house's length, of which only the part between 0 and L counts.
-#[tactic(auto, unfolding(crate::specs::Length::part_of, whole::specs::Pick::pick))]
-pub fn part(l: Span, h: House) -> Span
-    requires { l.0 ≤ 365000 }
-    ensures result_value { result.0 ≡ part_of l.0 h }
-    ensures result_le_l { result.0 ≤ l.0 }
-{
-    let ap = units::forward_of_ap(Span(0));
-    let fp = units::forward_of_ap(l);
-    let aft = h.aft.max(ap);
-    let fore = h.fore.min(fp);
-    if h.enclosed {
-        return units::between(aft, fore);
+// A house on the deck of a ship of length `l`.
+#[derive(Clone, Copy)]
+pub struct Placed {
+    pub l: Span,
+    pub house: House,
+    pub ghost length_most: { l.0 ≤ 365000 },
+}
+
+impl Placed {
+    // 34: the house's length, of which only the part between 0 and L counts.
+    #[tactic(auto, unfolding(crate::specs::Length::part_of, whole::specs::Pick::pick))]
+    pub fn part(self) -> Span
+        ensures result_value { result.0 ≡ part_of self.l.0 self.house }
+        ensures result_le_l { result.0 ≤ self.l.0 }
+    {
+        let h = self.house;
+        let aft = h.aft.max(units::forward_of_ap(Span(0)));
+        let fore = h.fore.min(units::forward_of_ap(self.l));
+        if h.enclosed {
+            return units::between(aft, fore);
+        }
+        Span(0)
     }
-    Span(0)
-}
 
-// 38: a house's reach before and abaft amidships, in tenths of a mm.
-pub fn reach_of(l: Span, h: House) -> u64
-    requires { (l.0 ≤ 365000) × GoodHouse l.0 h }
-    ensures value { result ≡ reach_of l.0 h }
-    ensures upper_bound { result ≤ 2 * l.0 }
-{
-    let tenth = units::tenth_in_tenths(l);
-    let ap = units::forward_of_ap(Span(0));
-    let aft = units::in_tenths(h.aft);
-    let fore = units::in_tenths(h.fore);
-    let amidships = units::in_tenths(ap) + units::half_in_tenths(l);
-    if h.enclosed & (aft <= amidships) & (amidships <= fore) {
-        return lesser(less(fore, amidships), tenth) + lesser(less(amidships, aft), tenth);
+    // 38: its reach before and abaft amidships, in tenths of a mm.
+    #[tactic(auto, unfolding(crate::specs::Cover::reach_of, crate::specs::Cover::is_amidships, whole::specs::Pick::pick))]
+    pub fn reach(self) -> u64
+        requires { GoodHouse self.l.0 self.house }
+        ensures value { result ≡ reach_of self.l.0 self.house }
+        ensures upper_bound { result ≤ 2 * self.l.0 }
+    {
+        let h = self.house;
+        let tenth = units::tenth_in_tenths(self.l);
+        let ap = units::in_tenths(units::forward_of_ap(Span(0)));
+        let aft = units::in_tenths(h.aft);
+        let fore = units::in_tenths(h.fore);
+        let amidships = ap + units::half_in_tenths(self.l);
+        if h.enclosed & (aft <= amidships) & (amidships <= fore) {
+            return (fore - amidships).min(tenth) + (amidships - aft).min(tenth);
+        }
+        0
     }
-    0
-}
 
-// Whether a house is the forecastle: enclosed, and its fore end at or beyond L.
-#[tactic(auto, unfolding(crate::specs::Forecastle::is_forecastle))]
-pub fn is_forecastle(l: Span, h: House) -> bool
-    requires { l.0 ≤ 365000 }
-    ensures { result ≡ is_forecastle l.0 h }
-{
-    let fp = units::forward_of_ap(l);
-    h.enclosed && fp <= h.fore
-}
+    // Whether it is the forecastle: enclosed, and its fore end at or beyond L.
+    #[tactic(auto, unfolding(crate::specs::Forecastle::is_forecastle))]
+    pub fn is_forecastle(self) -> bool
+        ensures { result ≡ is_forecastle self.l.0 self.house }
+    {
+        let h = self.house;
+        h.enclosed && units::forward_of_ap(self.l) <= h.fore
+    }
 
-// 31: whether a house, enclosed, covers the whole of 0.2 L to 0.8 L.
-pub fn covers_amidships(l: Span, h: House) -> bool
-    requires { (l.0 ≤ 365000) × GoodHouse l.0 h }
-    ensures { result ≡ covers_amidships l.0 h }
-{
-    let tenth = units::tenth_in_tenths(l);
-    let ap = units::in_tenths(units::forward_of_ap(Span(0)));
-    let aft = units::in_tenths(h.aft);
-    let fore = units::in_tenths(h.fore);
-    h.enclosed & (aft <= ap + 2 * tenth) & (ap + 8 * tenth <= fore)
+    // 31: whether it, enclosed, covers the whole of 0.2 L to 0.8 L.
+    #[tactic(auto, unfolding(crate::specs::Amidships::covers_amidships))]
+    pub fn covers_amidships(self) -> bool
+        requires { GoodHouse self.l.0 self.house }
+        ensures { result ≡ covers_amidships self.l.0 self.house }
+    {
+        let h = self.house;
+        let tenth = units::tenth_in_tenths(self.l);
+        let ap = units::in_tenths(units::forward_of_ap(Span(0)));
+        let aft = units::in_tenths(h.aft);
+        let fore = units::in_tenths(h.fore);
+        h.enclosed & (aft <= ap + 2 * tenth) & (ap + 8 * tenth <= fore)
+    }
 }

@@ -2,15 +2,15 @@
 use Prim.Native.Nat.{ℕ, suc, ◌+◌, ◌*◌, ◌≤◌, ◌<◌}
 use mathlib.Core.Bool.{Bool, true, false, not, ◌&&◌, and-eq-true_iff}
 use mathlib.Core.List.{List, [], ◌∷◌}
-use mathlib.Core.Path.{◌≡◌, refl, sym, ap, ap₂, subst, ◌∙◌}
+use mathlib.Core.Path.{◌≡◌, refl, ap, ap₂, subst, ◌∙◌}
 use native.Mathlib.Omega.{arith}
 use lib.ListN.{length}
+use Rattle.std.proofs.lemmas.Bool.{not-true}
 use Rattle.whole.specs.Pick.{pick}
 use Rattle.whole.specs.Frac.{Frac, frac, ◌≈f◌, ◌+f◌, floor}
 use Rattle.whole.proofs.Divide.{floor_most, mul_most}
 use Rattle.whole.proofs.Frac.{bot_of, trans≈, +_same}
 use Rattle.whole.proofs.Round.{floor_of}
-use Rattle.units.specs.declared.Unrounded.{Unrounded}
 use Rattle.ship.specs.declared.House.{House}
 use Rattle.ship.specs.Vessel.{house_at, full_breadth}
 use Rattle.ship.specs.Good.{GoodHouse, GoodHouses}
@@ -40,21 +40,6 @@ summed_with_lem l h hs = go (full_breadth h) h.quarterdeck
     go true true = refl
     go true false = refl
     go false q = refl
-
--- by what the house is
-pub by_kind : (h : House) (e : Unrounded) (s : Summed) {f q : Bool} → full_breadth h ≡ f → h.quarterdeck ≡ q
-    → summed_with h e s
-    ≡ record {
-      ordinary = pick (f && not q) (more e.top s.ordinary) s.ordinary;
-      raised = pick (f && q) (more e.top s.raised) s.raised;
-      own = record { 0 = pick (not f) (down e + s.own.0) s.own.0 };
-    }
-unfolding summed_with
-by_kind h e s a b = λ i. record {
-  ordinary = pick (a i && not (b i)) (more e.top s.ordinary) s.ordinary;
-  raised = pick (a i && b i) (more e.top s.raised) s.raised;
-  own = record { 0 = pick (not (a i)) (down e + s.own.0) s.own.0 };
-}
 
 -- ---- the numerators' sum is that of the fractions, over houses of one kind
 join : (a b d : ℕ) {x y : Frac} → 0 < d → frac a d ≈f x → frac b d ≈f y → frac (a + b) d ≈f x +f y
@@ -99,13 +84,9 @@ own_exact l (h ∷ hs) f = go (full_breadth h) (own_exact l hs f.1)
     go true r = r
     go false r = ap₂ ◌+◌ (floor_of (top_of l h) (bottom_of l h) (bottom_some l h f.0) (unrounded_exact l h f.0)) r
 
-pub not_true : (q : Bool) → not q ≡ true → q ≡ false
-not_true true e = sym e
-not_true false e = refl
-
 -- what the tests say
 are_ordinary : (h : House) → is_ordinary h ≡ true → (full_breadth h ≡ true) × (h.quarterdeck ≡ false)
-are_ordinary h e = let p = (and-eq-true_iff (full_breadth h) (not h.quarterdeck)).0 e in (p.0, not_true h.quarterdeck p.1)
+are_ordinary h e = let p = (and-eq-true_iff (full_breadth h) (not h.quarterdeck)).0 e in (p.0, not-true h.quarterdeck p.1)
 
 are_raised : (h : House) → is_raised h ≡ true → (full_breadth h ≡ true) × (h.quarterdeck ≡ true)
 are_raised h e = (and-eq-true_iff (full_breadth h) h.quarterdeck).0 e

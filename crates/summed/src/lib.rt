@@ -20,19 +20,18 @@ pub struct Summed {
 }
 
 // Of no house.
+#[tactic(auto, unfolding(crate::specs::Summed::summed_of, houses::specs::Length::total, houses::specs::Effective::those))]
 pub fn of_none(l: Span) -> Summed
     ensures { result ≡ summed_of l.0 [] }
 {
-    let ordinary = effective::standard_height(l, false);
-    let raised = effective::standard_height(l, true);
     Summed {
         ordinary: Unrounded {
             top: 0,
-            bottom: ordinary.size,
+            bottom: effective::standard_height(l, false).size,
         },
         raised: Unrounded {
             top: 0,
-            bottom: raised.size,
+            bottom: effective::standard_height(l, true).size,
         },
         own: Effective(0),
     }
@@ -50,44 +49,39 @@ fn plus(e: Unrounded, s: Unrounded) -> Unrounded
 }
 
 // An effective length or a sum, rounded down. Nothing is divided where there is nothing to divide: most ships have no raised quarterdeck.
+#[tactic(auto, using(whole::proofs::Divide::floor_most))]
 fn rounded(e: Unrounded) -> Effective
     requires { FairLength e }
     ensures result_value { result.0 ≡ down e }
     ensures result_le_greatest_length { result.0 ≤ greatest_length }
 {
-    let top = e.top;
-    if top == 0 {
+    if e.top == 0 {
         return Effective(0);
     }
-    Effective(top / e.bottom)
+    Effective(e.top / e.bottom)
 }
 
 // With one more house, by its kind.
+#[tactic(auto, unfolding(crate::specs::Summed::summed_with, whole::specs::Pick::pick))]
 pub fn with_one(h: House, e: Unrounded, s: Summed) -> Summed
     requires { FairLength e × FairSummed s × (full_breadth h ≡ true → e.bottom ≡ bottom_in h.quarterdeck s) }
     ensures { result ≡ summed_with h e s }
 {
-    let ordinary = s.ordinary;
-    let raised = s.raised;
-    let own = s.own;
     if !ship::full_breadth(h) {
         return Summed {
-            ordinary,
-            raised,
-            own: Effective(rounded(e).0 + own.0),
+            own: Effective(rounded(e).0 + s.own.0),
+            ..s
         };
     }
     if h.quarterdeck {
         return Summed {
-            ordinary,
-            raised: plus(e, raised),
-            own,
+            raised: plus(e, s.raised),
+            ..s
         };
     }
     Summed {
-        ordinary: plus(e, ordinary),
-        raised,
-        own,
+        ordinary: plus(e, s.ordinary),
+        ..s
     }
 }
 
@@ -96,7 +90,5 @@ pub fn effective_length(s: Summed) -> Effective
     requires { FairSummed s }
     ensures { result.0 ≡ effective_on s }
 {
-    let ordinary = rounded(s.ordinary);
-    let raised = rounded(s.raised);
-    Effective(ordinary.0 + raised.0 + s.own.0)
+    Effective(rounded(s.ordinary).0 + rounded(s.raised).0 + s.own.0)
 }

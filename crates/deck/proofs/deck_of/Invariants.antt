@@ -4,9 +4,9 @@ use Rattle.ship.specs.declared.House.{House}
 use Rattle.deck.specs.Deck.{deck_of}
 use Rattle.deck.proofs.deck_of.Given as goal
 
-abbrev pub invariant-loop-h : goal.invariant-loop-h
-invariant-loop-h l = record {
+abbrev pub invariant-loop-house : goal.invariant-loop-house
+invariant-loop-house l = record {
   passed : List House;
-  all : l.h-iterator.iter.rest.now ++ passed ≡ take l.n l.fn.hs;
+  all : l.house-iterator.iter.rest.now ++ passed ≡ take l.n l.fn.hs;
   deck : l.d ≡ deck_of l.l.0 passed;
 }

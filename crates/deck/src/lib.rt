@@ -11,7 +11,7 @@ ghost use Rattle.deck.specs.Deck.{deck_of, deck_with, FairDeck};
 use houses::Placed;
 use ship::House;
 use summed::Summed;
-use units::{Ratio, Span, Unrounded};
+use units::{Length, Ratio, Span, Unrounded};
 
 // Of the forecastle: its effective length, l and its height, all 0 where there is none.
 #[derive(Clone, Copy)]
@@ -35,8 +35,8 @@ pub struct Deck {
 // The ratio of heights of the house amidships, with one more house before the others: its own, or the others'.
 #[tactic(auto, unfolding(whole::specs::Pick::pick))]
 fn amidships_with(p: Placed, own: Ratio, others: Ratio) -> Ratio
-    requires { GoodHouse p.l.0 p.house }
-    ensures { result ≡ pick (covers_amidships p.l.0 p.house) own others }
+    requires { GoodHouse p.l.mm p.house }
+    ensures { result ≡ pick (covers_amidships p.l.mm p.house) own others }
 {
     if p.covers_amidships() {
         let top = own.top; // number by number: a choice between two structs would keep the deck in memory
@@ -49,8 +49,8 @@ fn amidships_with(p: Placed, own: Ratio, others: Ratio) -> Ratio
 // A deck with one more house before the others, of that ratio of heights.
 #[tactic(auto, unfolding(crate::specs::Deck::deck_with, whole::specs::Pick::pick))]
 pub fn with_house(p: Placed, ratio: Ratio, d: Deck) -> Deck
-    requires { GoodHouse p.l.0 p.house × (ratio ≡ ratio_of p.l.0 p.house) × FairDeck p.l.0 d }
-    ensures { result ≡ deck_with p.l.0 p.house d }
+    requires { GoodHouse p.l.mm p.house × (ratio ≡ ratio_of p.l.mm p.house) × FairDeck p.l.mm d }
+    ensures { result ≡ deck_with p.l.mm p.house d }
 {
     let part = p.part();
     let own = effective::effective_of(p, ratio);
@@ -100,14 +100,15 @@ fn bare_deck(l: Span) -> Deck
 }
 
 // The deck of the first `n` houses, built from the foremost to the aftmost.
-pub fn deck_of(l: Span, hs: [House; 8], n: usize) -> Deck
-    requires { (l.0 ≤ 365000) × (n ≤ 8) × GoodHouses l.0 (take n hs) }
-    ensures value { result ≡ deck_of l.0 (take n hs) }
-    ensures fair_deck { FairDeck l.0 result }
+pub fn deck_of(l: Length, hs: [House; 8], n: usize) -> Deck
+    requires { (n ≤ 8) × GoodHouses l.mm (take n hs) }
+    ensures value { result ≡ deck_of l.mm (take n hs) }
+    ensures fair_deck { FairDeck l.mm result }
 {
-    let mut d = bare_deck(l);
+    let length = l.span();
+    let mut d = bare_deck(length);
     for &house in hs[..n].iter().rev() {
-        let ratio = effective::height_ratio(l, house);
+        let ratio = effective::height_ratio(length, house);
         d = with_house(Placed { l, house }, ratio, d);
     }
     d

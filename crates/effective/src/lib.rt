@@ -77,12 +77,12 @@ pub fn standard_height(l: Span, quarterdeck: bool) -> Standard
 // 35: the length that counts in the effective length: a raised quarterdeck's is limited to 0.6 L.
 #[tactic(auto, using(houses::proofs::Limits::limited_most), unfolding(houses::specs::Effective::limited_length, whole::specs::Pick::pick))]
 fn limited_length(p: Placed) -> Effective
-    ensures result_value { result.0 ≡ limited_length p.l.0 p.house }
-    ensures result_bound { result.0 ≤ 1000 * p.l.0 }
+    ensures result_value { result.0 ≡ limited_length p.l.mm p.house }
+    ensures result_bound { result.0 ≤ 1000 * p.l.mm }
 {
     let um = units::effective_of(p.part());
     if p.house.quarterdeck {
-        return Effective(um.0.min(600 * p.l.0));
+        return Effective(um.0.min(600 * p.l.mm));
     }
     um
 }
@@ -121,9 +121,9 @@ fn breadth_ratio(h: House) -> Ratio
 // height, so their numerators can be added.
 #[tactic(auto, using(crate::proofs::Unrounded::unrounded_exact, crate::proofs::Unrounded::fair_unrounded), unfolding(crate::specs::Unrounded::top_of, crate::specs::Unrounded::bottom_of))]
 pub fn effective_of(p: Placed, ratio: Ratio) -> Unrounded
-    requires { (ratio ≡ ratio_of p.l.0 p.house) × FairBreadths p.house }
-    ensures frac { frac result.top result.bottom ≈f exact_effective p.l.0 p.house }
-    ensures value { result ≡ unrounded_of p.l.0 p.house }
+    requires { (ratio ≡ ratio_of p.l.mm p.house) × FairBreadths p.house }
+    ensures frac { frac result.top result.bottom ≈f exact_effective p.l.mm p.house }
+    ensures value { result ≡ unrounded_of p.l.mm p.house }
     ensures fair_length { FairLength result }
 {
     let length = limited_length(p);

@@ -7,5 +7,5 @@ use Rattle.checks.proofs.all_keep.Given as goal
 abbrev pub invariant-loop-h : goal.invariant-loop-h
 invariant-loop-h l = record {
   reached : l.reached.0 ≡ fore_before l.fn.houses l.h-index;
-  left : (r : Rule) → first_breach r l.fn.l.0 l.fn.houses ≡ first_from (breach_at r l.fn.l.0 l.fn.houses) l.h-index (length l.fn.houses - l.h-index);
+  left : (r : Rule) → first_breach r l.fn.l.mm l.fn.houses ≡ first_from (breach_at r l.fn.l.mm l.fn.houses) l.h-index (length l.fn.houses - l.h-index);
 }

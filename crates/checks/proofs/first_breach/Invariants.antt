@@ -6,5 +6,5 @@ use Rattle.checks.proofs.first_breach.Given as goal
 abbrev pub invariant-loop-k : goal.invariant-loop-k
 invariant-loop-k l = record {
   reached : l.before.0 ≡ fore_before l.fn.houses l.k;
-  left : first_breach l.fn.rule l.fn.l.0 l.fn.houses ≡ first_from (breach_at l.fn.rule l.fn.l.0 l.fn.houses) l.k (length l.fn.houses - l.k);
+  left : first_breach l.fn.rule l.fn.l.mm l.fn.houses ≡ first_from (breach_at l.fn.rule l.fn.l.mm l.fn.houses) l.k (length l.fn.houses - l.k);
 }

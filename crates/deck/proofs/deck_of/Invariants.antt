@@ -8,5 +8,5 @@ abbrev pub invariant-loop-house : goal.invariant-loop-house
 invariant-loop-house l = record {
   passed : List House;
   all : l.house-iterator.iter.rest.now ++ passed ≡ take l.n l.fn.hs;
-  deck : l.d ≡ deck_of l.l.0 passed;
+  deck : l.d ≡ deck_of l.l.mm passed;
 }

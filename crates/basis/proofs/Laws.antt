@@ -1,12 +1,9 @@
 -- Laws of the five lines: what code works, what rounding costs, and their order.
 use Prim.Native.Nat.{ℕ, zero, suc, ◌+◌, ◌*◌, ◌-◌, ◌/◌, ◌≤◌, ◌<◌}
-use mathlib.Core.Bool.{◌||◌, true, false, true≢false}
 use mathlib.Core.List.{[], ◌∷◌}
 use mathlib.Core.Path.{◌≡◌, refl, sym, ap, ◌∙◌}
 use native.Mathlib.Nat.{mul_comm, mul-le-mul_right, div-mul-le_self, lt-div-mul-add}
 use native.Mathlib.Omega.{arith}
-use borrow.Author.Tests.{ne_eqb}
-use lib.Dec.{eqb}
 use lib.ListN.{get_or}
 use Rattle.whole.specs.Frac.{◌≈f◌, ◌-f◌, ◌*f◌, whole, frac, ceil}
 use Rattle.whole.specs.Round.{Within}
@@ -59,28 +56,7 @@ pub b100_exact : (l : ℕ) → l ≤ 365000 → exact_reduced 100 l ≈f whole (
 unfolding exact_reduced
 b100_exact l h = omega (arith, tabular_a_at_most_b l h)
 
--- ---- the line that code chooses
-pub line_a : (kind l : ℕ) → l ≤ 365000 → (eqb kind kind_a || eqb kind kind_b100) ≡ true → table_a l ≡ (basis_of kind l).line
-unfolding basis_of
-line_a zero l h e = refl
-line_a (suc zero) l h e = absurd (true≢false (sym e))
-line_a (suc (suc zero)) l h e = absurd (true≢false (sym e))
-line_a (suc (suc (suc zero))) l h e = sym (b100_is_a l h)
-line_a (suc (suc (suc (suc k)))) l h e =
-    let n : ℕ = suc (suc (suc (suc k))) in
-    let f : (eqb n kind_a || eqb n kind_b100) ≡ false = rw (ne_eqb n kind_a (λ z. omega arith), ne_eqb n kind_b100 (λ z. omega arith)) refl in
-    absurd (true≢false (sym e ∙ f))
-
-pub line_b : (kind l : ℕ) → kind ≤ kind_covers → (eqb kind kind_a || eqb kind kind_b100) ≡ false → ¬ (kind ≡ kind_b60) → ¬ (kind ≡ kind_covers) → table_b l ≡ (basis_of kind l).line
-unfolding basis_of
-line_b zero l h e f g = absurd (true≢false e)
-line_b (suc zero) l h e f g = refl
-line_b (suc (suc zero)) l h e f g = absurd (f refl)
-line_b (suc (suc (suc zero))) l h e f g = absurd (true≢false e)
-line_b (suc (suc (suc (suc zero)))) l h e f g = absurd (g refl)
-line_b (suc (suc (suc (suc (suc k))))) l h e f g = absurd (omega arith)
-
--- and the floor: that of portable covers, or the ordinary one
+-- ---- the floor is that of portable covers, or the ordinary one
 pub floor_of : (kind l : ℕ) → kind ≤ kind_covers → ¬ (kind ≡ kind_covers) → 50 ≡ (basis_of kind l).floor
 unfolding basis_of
 floor_of zero l h g = refl

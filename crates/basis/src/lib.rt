@@ -41,24 +41,19 @@ fn line_b_60(l: Length) -> Freeboard
 }
 
 // The line of a type at a length. A B-100 ship is spared all of what B is above A: A is left.
-#[tactic(auto, using(crate::proofs::Laws::line_a, crate::proofs::Laws::line_b), unfolding(crate::specs::Basis::basis_of))]
+#[tactic(auto, using(crate::proofs::Laws::b100_is_a), unfolding(crate::specs::Basis::basis_of))]
 fn line_of(kind: u64, l: Length) -> Freeboard
     requires le_l { 24000 ≤ l.mm }
     requires kind_le_kind_covers { (kind ≤ kind_covers) × (kind ≡ kind_covers → l.mm ≤ 200000) }
     ensures result_value { result.0 ≡ (basis_of kind l.mm).line }
     ensures result_bound { result.0 ≤ 6400000 }
 {
-    if (kind == kind::A) | (kind == kind::B_100) {
-        return tabular_a(l);
+    match kind {
+        kind::A | kind::B_100 => tabular_a(l),
+        kind::B_60 => line_b_60(l),
+        kind::PORTABLE_COVERS => units::sum(tabular_b(l), covers_add(l.span())),
+        _ => tabular_b(l),
     }
-    if kind == kind::B_60 {
-        return line_b_60(l);
-    }
-    let b = tabular_b(l);
-    if kind == kind::PORTABLE_COVERS {
-        return units::sum(b, covers_add(l.span()));
-    }
-    b
 }
 
 // What a type decides for a ship of length `l`.

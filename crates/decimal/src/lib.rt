@@ -4,32 +4,20 @@
 ghost use Rattle.std.specs.Prelude.{◌≡◌};
 ghost use Rattle.decimal.specs.Decimal.{parsed};
 
-#[derive(Clone, Copy)]
-pub enum Parsed {
-    Number(u64),
-    Bad,
-}
-
-// The number that the bytes write. Bad: no byte at all, a byte that is no digit, or a number that a u64 does not hold.
-pub fn parse(s: &[u8]) -> Parsed
+// The number that the bytes write. None: no byte at all, a byte that is no digit (std's `parse` takes a + before the digits), or a number that a u64 does not hold.
+#[tactic(auto, using(crate::proofs::Digits::digits))]
+pub fn parse(s: &[u8]) -> Option<u64>
     ensures { result ≡ parsed s.now }
 {
-    if s.len() == 0 {
-        return Parsed::Bad;
+    if s.is_empty() {
+        return None;
     }
     let mut v: u64 = 0;
-    let mut i = 0;
-    while i < s.len() {
-        let b = s[i] as u64;
-        if (b < 48) | (57 < b) {
-            return Parsed::Bad;
+    for b in s {
+        if !b.is_ascii_digit() {
+            return None;
         }
-        let d = b - 48;
-        if (18446744073709551615 - d) / 10 < v {
-            return Parsed::Bad;
-        }
-        v = 10 * v + d;
-        i += 1;
+        v = v.checked_mul(10)?.checked_add(u64::from(*b - b'0'))?;
     }
-    Parsed::Number(v)
+    Some(v)
 }

@@ -12,15 +12,13 @@ use std::{fs, str};
 
 // How many arguments the program was started with, its own name among them.
 pub fn arg_count(rt: &impl Env) -> usize {
-    for i in 0..usize::MAX {
-        if let Err(FillError::NotPresent) = rt.arg(i, &mut []) {
-            return i;
-        }
-    }
-    usize::MAX
+    (0..usize::MAX)
+        .find(|i| matches!(rt.arg(*i, &mut []), Err(FillError::NotPresent)))
+        .unwrap_or(usize::MAX)
 }
 
 // Puts argument i at the start of the buffer, and answers its length, or 0 where it is missing or longer than the buffer.
+// No Option: to every caller a missing argument is what an empty one is, no number and no file, and this cannot fail.
 pub fn arg(rt: &impl Env, i: usize, buf: &mut [u8]) -> usize
     ensures { IsPrefixLen result buf.new }
 {
@@ -28,18 +26,15 @@ pub fn arg(rt: &impl Env, i: usize, buf: &mut [u8]) -> usize
 }
 
 // Reads until the buffer is full, the input ends or a read fails, and answers how many bytes came: the input's next ones, at the start of the buffer.
+// The loop is std's `read_to_end` without its heap; `read_exact` does not say how many bytes a short input had.
 pub fn read_full<R: Read>(input: &mut R, buf: &mut [u8]) -> usize
     ensures in_bounds { IsPrefixLen result buf.new }
     ensures bytes { Consumes (R.remaining input.old) (R.remaining input.new) (take result buf.new) }
 {
     let mut done = 0;
-    while done < buf.len() {
-        let Ok(n) = input.read(&mut buf[done..]) else {
-            break;
-        };
-        if n == 0 {
-            break;
-        }
+    while done < buf.len()
+        && let Ok(n @ 1..) = input.read(&mut buf[done..])
+    {
         done += n;
     }
     done

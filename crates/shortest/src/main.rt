@@ -1,10 +1,9 @@
 // The shortest poop of the record on standard input: shortest HEIGHT WISH, both in millimetres.
 #![tactic(auto)]
 
-use decimal::Parsed;
 use question::Answer;
 
-fn argument(rt: &HostRuntime, i: usize) -> Parsed {
+fn argument(rt: &HostRuntime, i: usize) -> Option<u64> {
     let mut buf = [0u8; 4096];
     let n = files::arg(rt, i, &mut buf);
     decimal::parse(&buf[..n])
@@ -33,14 +32,14 @@ fn main(rt: HostRuntime) {
         );
         return;
     }
-    let Parsed::Number(height) = argument(&rt, 1) else {
+    let Some(height) = argument(&rt, 1) else {
         show::text(
             &rt,
             b"shortest: HEIGHT is a whole number of millimetres below 2^64\n",
         );
         return;
     };
-    let Parsed::Number(wish) = argument(&rt, 2) else {
+    let Some(wish) = argument(&rt, 2) else {
         show::text(
             &rt,
             b"shortest: WISH is a whole number of millimetres below 2^64\n",

@@ -8,6 +8,8 @@ ghost use Rattle.mark.specs.Others.{tropical, winter, atlantic, allowance, draug
 use ship::refusal::Refusal;
 use units::{Freeboard, Span};
 
+mod print;
+
 // Fresh water's may be negative.
 #[derive(Clone, Copy)]
 pub struct Marks {

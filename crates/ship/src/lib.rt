@@ -7,6 +7,7 @@ ghost use Rattle.ship.specs.Vessel.{no_house, no_ship, full_breadth};
 use units::{AP, LIFT, Ordinate, Span, Station};
 
 pub mod kind;
+mod print;
 pub mod refusal;
 pub mod rule;
 

@@ -7,6 +7,8 @@ ghost use Rattle.timber.specs.Timber.{timber_winter, timber_from, no_timber, tim
 use mark::Marks;
 use units::{Freeboard, Span};
 
+mod print;
+
 // A mark as what stands above zero and what lies below it: up less down.
 #[derive(Clone, Copy)]
 pub struct Level {

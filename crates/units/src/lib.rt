@@ -6,6 +6,8 @@ ghost use Rattle.std.specs.Prelude.{◌≡◌, ◌+◌, ◌-◌, ◌*◌, ◌/�
 ghost use Rattle.whole.specs.Divide.{ceil_div};
 ghost use Rattle.units.specs.Datum.{datum, lift, station_of, mm_of, station_at, sheer_of, ordinate_at, counted_from};
 
+mod print;
+
 // A place along the ship: millimetres forward of the after perpendicular (AP), negative abaft it, with 2^20 added so that none is below zero.
 #[derive(Clone, Copy)]
 pub struct Station(pub u64);

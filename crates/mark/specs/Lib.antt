@@ -1,2 +1,3 @@
 pub mod Summer
 pub mod Others
+pub mod Printed

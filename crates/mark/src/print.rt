@@ -1,17 +1,16 @@
 // The six marks in print, in millimetres behind their names.
+ghost use Rattle.std.specs.Prelude.{Some};
+ghost use Rattle.mark.specs.Printed.{marks_text};
+
 use crate::Marks;
 use std::fmt;
 
 impl fmt::Display for Marks {
+    ghost output = { λ m. Some (marks_text m) };
+
     fn fmt<W: fmt::Write>(&self, f: &mut fmt::Formatter<W>) -> fmt::Result {
-        let Marks {
-            s,
-            t,
-            w,
-            wna,
-            f: fresh,
-            tf,
-        } = *self;
-        write!(f, "S {s} T {t} W {w} WNA {wna} F {fresh} TF {tf}")
+        write!(f, "S {} T {}", self.s, self.t)?;
+        write!(f, " W {} WNA {}", self.w, self.wna)?;
+        write!(f, " F {} TF {}", self.f, self.tf)
     }
 }

@@ -3,3 +3,4 @@ pub mod Vessel
 pub mod Refusals
 pub mod Checks
 pub mod Good
+pub mod Printed

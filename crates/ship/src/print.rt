@@ -1,17 +1,21 @@
 // Ships and refusals in print, in the papers' own terms and on one line.
+ghost use Rattle.std.specs.Prelude.{Some};
+ghost use Rattle.ship.specs.Printed.{refusal_text};
+
 use crate::refusal::{Paper, Refusal};
 use crate::{House, Ship};
 use std::fmt;
 
 // Number and place; the overlap for houses that overlap, and no third number for any other refusal.
 impl fmt::Display for Refusal {
+    ghost output = { λ r. Some (refusal_text r) };
+
     fn fmt<W: fmt::Write>(&self, f: &mut fmt::Formatter<W>) -> fmt::Result {
         let p = Paper::from(*self);
-        write!(f, "refused {} {}", p.number, p.place)?;
-        if 0 < p.overlap {
-            write!(f, " {}", p.overlap)?;
+        match p.overlap {
+            0 => write!(f, "refused {} {}", p.number, p.place),
+            mm => write!(f, "refused {} {} {mm}", p.number, p.place),
         }
-        Ok(())
     }
 }
 

@@ -1,3 +1,4 @@
 pub mod Timber
 pub mod Exact
 pub mod Answer
+pub mod Printed

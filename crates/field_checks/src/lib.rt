@@ -1,11 +1,11 @@
 // Checks 7, 22 and 8, on a ship's fields and its type.
 #![tactic(auto)]
 
-ghost use Rattle.std.specs.Prelude.{◌≡◌, ◌≤◌};
+ghost use Rattle.std.specs.Prelude.{◌≡◌, ◌<◌, unwrap_or, IfSome};
 ghost use Rattle.ship.specs.Refusals.{paper, first};
 ghost use Rattle.ship.specs.Checks.{fields_of, field_out, unfit_length, field_lines};
 
-use ship::refusal::{Refusal, Verdict};
+use ship::refusal::Refusal;
 use ship::{Ship, kind, refusal};
 use units::{LIFT, Span};
 
@@ -24,39 +24,43 @@ const MOST: [u64; 13] = [
 fn fields(x: Ship) -> [u64; 13]
     ensures { result ≡ fields_of x }
 {
-    let s = x.sheer;
+    let [
+        ap,
+        after_sixth,
+        after_third,
+        forward_third,
+        forward_sixth,
+        fp,
+    ] = x.sheer;
     [
         x.length.0,
         x.depth.0,
         x.moulded.0,
         x.block,
         x.waterplane,
-        s[0].0,
-        s[1].0,
-        s[2].0,
-        s[3].0,
-        s[4].0,
-        s[5].0,
+        ap.0,
+        after_sixth.0,
+        after_third.0,
+        forward_third.0,
+        forward_sixth.0,
+        fp.0,
         x.displacement,
         x.immersion,
     ]
 }
 
-// The first field outside its range, counted from 0, or 13.
-fn field_out(fields: [u64; 13]) -> usize
-    ensures { (result ≡ field_out fields) × (result ≤ 13) }
+// The first field outside its range, counted from 0.
+#[tactic(auto, using(ship::proofs::First::first_fail, ship::proofs::First::first_pass, ship::proofs::First::first_end), unfolding(ship::specs::Checks::field_out))]
+fn field_out(fields: [u64; 13]) -> Option<usize>
+    ensures first { unwrap_or result 13 ≡ field_out fields }
+    ensures within { IfSome result (λ k. k < 13) }
 {
-    let least = LEAST;
-    let most = MOST;
-    let mut k = 0;
-    while k < 13 {
-        let v = fields[k];
-        if (v < least[k]) | (most[k] < v) {
-            return k;
+    for (k, v) in fields.iter().enumerate() {
+        if *v < LEAST[k] || MOST[k] < *v {
+            return Some(k);
         }
-        k += 1;
     }
-    k
+    None
 }
 
 // In mm: a ship of reduced freeboard is longer than the first (27(8)), and table 27.1 ends at the second.
@@ -68,21 +72,23 @@ const COVERS_TO: u64 = 200000;
 fn unfit_length(kind: u64, l: Span) -> bool
     ensures { result ≡ unfit_length kind l.0 }
 {
-    let mm = l.0;
-    let reduced = (kind == kind::B_60) | (kind == kind::B_100);
-    let covers = kind == kind::PORTABLE_COVERS;
-    (reduced & (mm <= REDUCED_ABOVE)) | (covers & (COVERS_TO < mm))
+    match kind {
+        kind::B_60 | kind::B_100 => l.0 <= REDUCED_ABOVE,
+        kind::PORTABLE_COVERS => COVERS_TO < l.0,
+        _ => false,
+    }
 }
 
-// Checks 7, 22 and 8, from the table's last line up. Fields are counted from 1.
-pub fn of_fields(x: Ship) -> Verdict
+// Checks 7, 22 and 8, in the table's order. Fields are counted from 1.
+#[tactic(auto, unfolding(whole::specs::Pick::pick, ship::specs::Refusals::first))]
+pub fn of_fields(x: Ship) -> Result<(), Refusal>
     ensures { paper result ≡ first (field_lines x) }
 {
-    let k = field_out(fields(x));
-    let field = k + 1;
-    let half = (x.displacement == 0) != (x.immersion == 0);
+    if let Some(k) = field_out(fields(x)) {
+        return Err(Refusal::FieldRange(k + 1));
+    }
     let unfit = unfit_length(x.kind, x.length);
-    let v = refusal::line(half, Refusal::HalfCertified, Verdict::Accepted);
-    let v = refusal::line(unfit, Refusal::LengthForType, v);
-    refusal::line(k < 13, Refusal::FieldRange(field), v)
+    let half = (x.displacement == 0) != (x.immersion == 0);
+    refusal::line(unfit, Refusal::LengthForType)?;
+    refusal::line(half, Refusal::HalfCertified)
 }

@@ -10,7 +10,7 @@ ghost use Rattle.record.specs.Reading.{head_lines};
 
 use record::{Head, after, range};
 use ship::kind;
-use ship::refusal::{Refusal, Verdict};
+use ship::refusal::Refusal;
 use units::{Ordinate, Span};
 
 // The ordinates of sheer, from the word of the first four and that of the last two.
@@ -59,24 +59,25 @@ pub fn read(s: &[u8]) -> Head
 }
 
 // Checks 2 to 5, and 24, on the head of a record of so many bytes.
-pub fn check_head(h: Head, bytes: usize) -> Verdict
+#[tactic(auto, unfolding(whole::specs::Pick::pick, ship::specs::Refusals::first))]
+pub fn check_head(h: Head, bytes: usize) -> Result<(), Refusal>
     ensures { paper result ≡ first (head_lines h bytes) }
 {
     if (h.version == 0) | (record::LAST_VERSION < h.version) {
-        return Verdict::Refused(Refusal::Version);
+        return Err(Refusal::Version);
     }
     if h.kind > record::last_type_in(h.version) {
-        return Verdict::Refused(Refusal::ShipType);
+        return Err(Refusal::ShipType);
     }
     if kind::timber_for_a(h.kind, h.timber) {
-        return Verdict::Refused(Refusal::TimberForA);
+        return Err(Refusal::TimberForA);
     }
     if h.count > record::MOST_HOUSES {
-        return Verdict::Refused(Refusal::HouseCount);
+        return Err(Refusal::HouseCount);
     }
     let n = h.count as usize;
     if bytes != record::record_length(h.version, n) {
-        return Verdict::Refused(Refusal::RecordLength);
+        return Err(Refusal::RecordLength);
     }
-    Verdict::Accepted
+    Ok(())
 }

@@ -20,6 +20,7 @@ const WIDEST: u64 = 65535;
 
 // Check 9: the house has a length, some of it lies forward of the after perpendicular and some abaft the fore one, it stands out no farther than it
 // may, and its height is in its range. A length that would be negative reads as 0.
+#[tactic(auto, using(std::proofs::lemmas::Bool::Decides::nat_tests))]
 fn bad_ends(l: Span, h: House) -> bool
     requires { l.0 ≤ 365000 }
     ensures { result ≡ bad_ends l.0 h }
@@ -45,6 +46,7 @@ fn bad_ends(l: Span, h: House) -> bool
 
 // Check 23: a house's two breadths are both zero, or the house is no broader than the ship, and on neither side more than 4 per cent of the ship's breadth inside
 // it. A breadth beyond 16 bits is told first: its products might not fit.
+#[tactic(auto, using(std::proofs::lemmas::Bool::Decides::nat_tests))]
 fn bad_breadths(h: House) -> bool
     ensures { result ≡ bad_breadths h }
 {
@@ -58,6 +60,7 @@ fn bad_breadths(h: House) -> bool
 }
 
 // Check 10: a raised quarterdeck is enclosed, begins at the after perpendicular or abaft it, and ends abaft the fore one.
+#[tactic(auto, using(std::proofs::lemmas::Bool::Decides::nat_tests))]
 fn bad_quarterdeck(l: Span, h: House) -> bool
     requires { l.0 ≤ 365000 }
     ensures { result ≡ bad_quarterdeck l.0 h }
@@ -71,7 +74,7 @@ fn bad_quarterdeck(l: Span, h: House) -> bool
     h.quarterdeck & (!h.enclosed | (0 < begins) | (short_of_fp < 1))
 }
 
-// Whether a house breaks a rule; `before` is the fore end of the house before it.
+// Whether a house breaks a rule; `before` is the fore end of the house before it. The rule is named, no closure: contracts speak of a rule by its name, and of every rule.
 #[tactic(auto, unfolding(ship::specs::Checks::breaks))]
 pub fn house_breaks(rule: Rule, l: Span, before: Station, h: House) -> bool
     requires { l.0 ≤ 365000 }
@@ -81,7 +84,10 @@ pub fn house_breaks(rule: Rule, l: Span, before: Station, h: House) -> bool
         Rule::EndsAndHeight => bad_ends(l, h),
         Rule::SetInSides => bad_breadths(h),
         Rule::RaisedQuarterdeck => bad_quarterdeck(l, h),
-        Rule::Follows => h.aft < before,
+        Rule::Follows => {
+            let aft = h.aft;
+            units::is_abaft(aft, before)
+        }
     }
 }
 
@@ -102,9 +108,13 @@ pub fn breaks_any(l: Span, before: Station, h: House) -> bool
 pub fn misplaced(k: usize, before: House, h: House) -> Refusal
     ensures { refused_as result ≡ first (order_lines_at k true before h) }
 {
-    if h.aft < before.aft {
+    let aft = h.aft;
+    let begins = before.aft;
+    if units::is_abaft(aft, begins) {
         return Refusal::OutOfOrder(k);
     }
-    let end = before.fore.min(h.fore);
-    Refusal::Overlap(k, units::between(h.aft, end))
+    let fore = h.fore;
+    let ends = before.fore;
+    let end = units::aftermost(ends, fore);
+    Refusal::Overlap(k, units::between(aft, end))
 }

@@ -4,17 +4,17 @@ use mathlib.Core.Path.{◌≡◌, ap}
 use native.Mathlib.Omega.{arith}
 use lib.Dec.{leb}
 use borrow.Author.Tests.{leb-false}
+use Rattle.std.specs.Prelude.{Ok}
 use Rattle.whole.proofs.Pick.{by_cases}
 use Rattle.whole.proofs.Divide.{ceil_ge, ceil_lt}
 use Rattle.ship.specs.Refusals.{Paper, first}
 use Rattle.ship.proofs.Lines.{all_pass}
 use Rattle.mark.specs.declared.Marks.{Marks}
 use Rattle.mark.specs.declared.Particulars.{Particulars}
-use Rattle.mark.specs.declared.Answer.TheVariants.{Given}
 use Rattle.mark.specs.Others.{tropical, winter, atlantic, draught_at, six_marks, mark_lines, sheet, sheet_at}
 use Rattle.mark.proofs.OneToOne.{given_marks}
 
-pub given_below : (p : Particulars) (S : ℕ) (m : Marks) → sheet (Given m) ≡ sheet_at p S → (m ≡ six_marks p S) × (S < p.depth.0)
+pub given_below : (p : Particulars) (S : ℕ) (m : Marks) → sheet (Ok m) ≡ sheet_at p S → (m ≡ six_marks p S) × (S < p.depth.0)
 unfolding sheet_at
 given_below p S m e =
     let g = given_marks (first (mark_lines p S)) (six_marks p S) m e in

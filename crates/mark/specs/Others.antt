@@ -1,12 +1,11 @@
 -- 01, "The other marks" (regulation 40): the five that follow from the summer mark S, in mm, with refusals 12 and 13.
-use Rattle.std.specs.Prelude.{ℕ, ◌+◌, ◌*◌, ◌-◌, ◌/◌, max, List, [], ◌∷◌, eqb, leb, ltb, pos, ◌-ℤ◌}
+use Rattle.std.specs.Prelude.{ℕ, ◌+◌, ◌*◌, ◌-◌, ◌/◌, max, List, [], ◌∷◌, Result, Ok, Err, eqb, leb, ltb, pos, ◌-ℤ◌}
 use Rattle.whole.specs.Divide.{ceil_div}
 use Rattle.whole.specs.Pick.{pick}
 use Rattle.ship.specs.Refusals.{Paper, Line, accepted, refused, refused_as, first}
 use Rattle.mark.specs.declared.Marks.{Marks}
 use Rattle.mark.specs.declared.Particulars.{Particulars}
-use Rattle.mark.specs.declared.Answer.{Answer}
-use Rattle.mark.specs.declared.Answer.TheVariants.{Given, Refused}
+use Rattle.ship.specs.declared.refusal.Refusal.{Refusal}
 
 -- 40(3), (4): T: S minus d/48 (down), at least the floor
 unfoldable pub tropical : ℕ → ℕ → ℕ → ℕ
@@ -55,9 +54,9 @@ abbrev pub no_marks : Marks
 no_marks = record { s = 0; t = 0; w = 0; wna = 0; f = pos 0; tf = pos 0 }
 
 -- one definition gives 01's numbers for each case
-abbrev pub sheet : Answer → Sheet
-sheet (Given m) = record { verdict = accepted; marks = m }
-sheet (Refused r) = record { verdict = refused_as r; marks = no_marks }
+abbrev pub sheet : Result Marks Refusal → Sheet
+sheet (Ok m) = record { verdict = accepted; marks = m }
+sheet (Err r) = record { verdict = refused_as r; marks = no_marks }
 
 -- marks beside the verdict that some lines give
 abbrev pub sheet_of : Paper → Marks → Sheet

@@ -19,13 +19,6 @@ pub struct Marks {
     pub tf: i64,
 }
 
-// The marks, or what is refused.
-#[derive(Clone, Copy)]
-pub enum Answer {
-    Given(Marks),
-    Refused(Refusal),
-}
-
 // What the five other marks need of a ship besides its summer mark: the least freeboard of its type in mm, D, L, and the two certified fields, both 0
 // if they are not: displacement in t, immersion in hundredths of a t per cm.
 #[derive(Clone, Copy)]
@@ -49,6 +42,7 @@ pub fn summer(floor: u64, added: Freeboard, taken: Freeboard, bow: Freeboard) ->
 }
 
 // T, from the summer mark and the summer draught d.
+#[tactic(auto, unfolding(crate::specs::Others::tropical))]
 fn tropical_of(floor: u64, s: u64, d: u64) -> u64
     ensures value { result ≡ tropical floor s d }
     ensures upper_bound { result ≤ floor + s }
@@ -57,6 +51,7 @@ fn tropical_of(floor: u64, s: u64, d: u64) -> u64
 }
 
 // W.
+#[tactic(auto, unfolding(crate::specs::Others::winter))]
 fn winter_of(s: u64, d: u64) -> u64
     requires { (s ≤ 60000) × (d ≤ 60000) }
     ensures value { result ≡ winter s d }
@@ -66,15 +61,16 @@ fn winter_of(s: u64, d: u64) -> u64
 }
 
 // WNA, from W.
+#[tactic(auto, unfolding(crate::specs::Others::atlantic, whole::specs::Pick::pick))]
 fn atlantic_of(w: u64, l: Span) -> u64
     requires { w ≤ 120000 }
     ensures { result ≡ atlantic w l.0 }
 {
-    let mm = l.0;
-    if mm <= 100000 { w + 50 } else { w }
+    if l.0 <= 100000 { w + 50 } else { w }
 }
 
 // The fresh water allowance, from the certified fields or from the summer draught d.
+#[tactic(auto, unfolding(crate::specs::Others::allowance, whole::specs::Pick::pick))]
 fn allowance_of(displacement: u64, immersion: u64, d: u64) -> u64
     requires { (displacement < 1048576) × (d ≤ 60000) }
     ensures value { result ≡ allowance displacement immersion d }
@@ -87,6 +83,7 @@ fn allowance_of(displacement: u64, immersion: u64, d: u64) -> u64
 }
 
 // All six, from the summer mark s, the summer draught d and the fresh allowance.
+#[tactic(auto, unfolding(crate::specs::Others::six_marks))]
 fn six_marks(p: Particulars, s: u64, d: u64, fresh: u64) -> Marks
     requires { (p.floor ≤ 60000) × (p.depth.0 ≤ 60000) × (s < p.depth.0) × (d ≡ draught_at p s) × (fresh ≡ fresh_at p s) × (fresh ≤ 26214400) }
     ensures { result ≡ six_marks p s }
@@ -107,19 +104,18 @@ fn six_marks(p: Particulars, s: u64, d: u64, fresh: u64) -> Marks
 }
 
 // All six from the summer mark s, or refusal 12 or 13. At a draught of 0 both can apply: 12 comes first.
-pub fn follow(p: Particulars, s: u64) -> Answer
+#[tactic(auto, unfolding(crate::specs::Others::sheet_at, ship::specs::Refusals::first, whole::specs::Pick::pick))]
+pub fn follow(p: Particulars, s: u64) -> Result<Marks, Refusal>
     requires { (p.floor ≤ 60000) × (p.depth.0 ≤ 60000) × (p.displacement < 1048576) }
     ensures { sheet result ≡ sheet_at p s }
 {
-    let depth = p.depth;
-    let d = units::draught(depth, s);
+    let d = units::draught(p.depth, s);
     let fresh = allowance_of(p.displacement, p.immersion, d);
-    let at_keel = units::is_at_keel(depth, s);
-    if at_keel {
-        return Answer::Refused(Refusal::NoDraught);
+    if units::is_at_keel(p.depth, s) {
+        return Err(Refusal::NoDraught);
     }
     if d < fresh {
-        return Answer::Refused(Refusal::FreshAllowance);
+        return Err(Refusal::FreshAllowance);
     }
-    Answer::Given(six_marks(p, s, d, fresh))
+    Ok(six_marks(p, s, d, fresh))
 }

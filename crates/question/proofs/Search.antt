@@ -1,38 +1,17 @@
--- The search: its turns, and that it gives the shortest length that fits; the facts that say so leave one answer.
-use Prim.Native.Nat.{ℕ, zero, suc, ◌+◌, ◌-◌, ◌*◌, ◌/◌, ◌≤◌, ◌<◌}
+-- The search: that its definition gives the shortest length that fits, as does what is found; the facts that say so leave one answer.
+use Prim.Native.Nat.{ℕ, zero, suc, ◌+◌, ◌*◌, ◌/◌, ◌≤◌, ◌<◌}
 use mathlib.Core.Bool.{Bool, true, false, true≢false}
 use mathlib.Core.Path.{◌≡◌, refl, sym, ap, ap₂, ◌∙◌}
 use native.Mathlib.Decide.{dec_lt}
 use native.Mathlib.Omega.{arith}
-use lib.ListN.{length}
+use Rattle.std.specs.Prelude.{Option, Some, None, MatchOption}
+use Rattle.std.specs.Option.{ok_or}
 use Rattle.ship.specs.declared.Ship.{Ship}
-use Rattle.steps.specs.Steps.{Sound}
-use Rattle.trial.specs.declared.Standing.{Standing}
+use Rattle.ship.specs.declared.refusal.Refusal.TheVariants.{NoLengthFits}
 use Rattle.trial.specs.Poop.{fits_at}
-use Rattle.trial.specs.Standing.{standing_of, fits_on}
-use Rattle.trial.proofs.Trial.{fits_same}
-use Rattle.question.specs.Question.{Reply, given, no_length, shortest_from, shortest_for, Shortest, fitting, none}
+use Rattle.question.specs.Question.{Reply, given, reply, shortest_from, shortest_for, Shortest, fitting, none}
 
 module _ (fits : ℕ → Bool) where
-  -- one turn: the length at hand fits, it does not, and there is none left
-  pub hit : (n k : ℕ) → k < n → fits k ≡ true → shortest_from fits (n - k) k ≡ given k
-  unfolding shortest_from
-  hit n k h e =
-      let m : n - k ≡ suc (n - (k + 1)) = omega arith in
-      rw (m, shortest_from, e)
-
-  pub miss : (n k : ℕ) → k < n → fits k ≡ false → shortest_from fits (n - k) k ≡ shortest_from fits (n - (k + 1)) (k + 1)
-  unfolding shortest_from
-  miss n k h e =
-      let m : n - k ≡ suc (n - (k + 1)) = omega arith in
-      rw (m, shortest_from, e)
-
-  pub end : (n k : ℕ) → n ≤ k → shortest_from fits (n - k) k ≡ no_length
-  unfolding shortest_from
-  end n k h =
-      let m : n - k ≡ 0 = omega arith in
-      rw m
-
   -- from k on, where nothing before k fits
   meets : (L m k : ℕ) → L / 100 + 1 ≡ k + m → ((j : ℕ) → j < k → fits j ≡ false) → Shortest fits L (shortest_from fits m k)
   unfolding shortest_from
@@ -76,11 +55,10 @@ module _ (x : Ship) (height wish : ℕ) where
   pub only_shortest : (r : Reply) → Shortest (fits_at x height wish) x.length.0 r → r ≡ shortest_for x height wish
   only_shortest r f = one_shortest (fits_at x height wish) x.length.0 r (shortest_for x height wish) f is_shortest
 
--- ---- the search that tries each length by what was worked once is the search
-pub searched : (x : Ship) → Sound x → x.n < 8 → length x.houses ≡ 8 → (height wish : ℕ) → 1 ≤ height → height ≤ 8191
-    → (q : Standing) → q ≡ standing_of x height wish → shortest_from (fits_on q) (x.length.0 / 100 + 1) 0 ≡ shortest_for x height wish
-unfolding shortest_for
-searched x s few eight height wish least most q e =
-    ap (λ (p : Standing). shortest_from (fits_on p) (x.length.0 / 100 + 1) 0) e
-    ∙ same_search (fits_on (standing_of x height wish)) (fits_at x height wish) x.length.0 (x.length.0 / 100 + 1) 0 (omega arith)
-    (fits_same x s few eight height wish least most)
+-- ---- what is found among so many lengths from 0 on, by another test that agrees on each, is the shortest
+pub found : (f g : ℕ → Bool) (L n : ℕ) → n ≡ L / 100 + 1 → ((j : ℕ) → 100 * j ≤ L → f j ≡ g j)
+    → (r : Option ℕ) → MatchOption r ((k : ℕ) → 0 ≤ k → k < n → f k ≡ false) (λ k. (0 ≤ k) × (k < n) × (f k ≡ true) × ((j : ℕ) → 0 ≤ j → j < k → f j ≡ false))
+    → Shortest g L (reply (ok_or r NoLengthFits))
+found f g L n e same None h = none (λ j l. sym (same j l) ∙ h j (omega arith) (omega arith))
+found f g L n e same (Some k) h =
+    fitting k (omega arith) (sym (same k (omega arith)) ∙ h.2) (λ j l. sym (same j (omega arith)) ∙ h.3 j (omega arith) l)

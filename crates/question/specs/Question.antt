@@ -1,15 +1,14 @@
 -- 01, the shortest-poop question: refusals 1 to 11, 24 after 3, 22 after 7, 23 after 9, and 18 with 11, then 14, 15 and 16, in the papers' order, and the shortest length that fits.
-use Rattle.std.specs.Prelude.{ℕ, zero, suc, ◌+◌, ◌*◌, ◌/◌, ◌≤◌, ◌<◌, Bool, true, false, ◌&&◌, ◌||◌, List, [], ◌∷◌, ◌++◌, ◌≡◌, eqb, ltb, leb}
+use Rattle.std.specs.Prelude.{ℕ, zero, suc, ◌+◌, ◌*◌, ◌/◌, ◌≤◌, ◌<◌, Bool, true, false, ◌&&◌, ◌||◌, List, [], ◌∷◌, ◌++◌, ◌≡◌, Result, Ok, Err, eqb, ltb, leb}
 use Rattle.whole.specs.Pick.{pick}
 use Rattle.units.specs.Datum.{station_of}
 use Rattle.ship.specs.declared.Ship.{Ship}
+use Rattle.ship.specs.declared.refusal.Refusal.{Refusal}
 use Rattle.ship.specs.Vessel.{house_at}
 use Rattle.ship.specs.Refusals.{Paper, Line, accepted, refused, refused_as, first}
 use Rattle.ship.specs.Checks.{ship_lines}
 use Rattle.record.specs.Layout.{ship_in}
 use Rattle.record.specs.Reading.{frame_lines}
-use Rattle.question.specs.declared.Answer.{Answer}
-use Rattle.question.specs.declared.Answer.TheVariants.{Poop, Refused}
 use Rattle.trial.specs.Poop.{fits_at}
 
 -- an answer in 01's own terms: number 0 refuses nothing; beside a refusal the length is zero
@@ -24,9 +23,9 @@ abbrev pub refusing : Paper → Reply
 refusing p = record { verdict = p; decimetres = 0 }
 
 -- one definition gives 01's numbers for each case
-abbrev pub reply : Answer → Reply
-reply (Poop k) = given k
-reply (Refused r) = refusing (refused_as r)
+abbrev pub reply : Result ℕ Refusal → Reply
+reply (Ok k) = given k
+reply (Err r) = refusing (refused_as r)
 
 -- 14: poop height outside 1..8191, or wish outside 50..60000
 abbrev pub bad_asked : ℕ → ℕ → Bool

@@ -9,26 +9,13 @@ use ship::Ship;
 use ship::refusal::Refusal;
 use units::Span;
 
-// The shortest poop in decimetres, or what is refused.
-#[derive(Clone, Copy)]
-pub enum Answer {
-    Poop(u64),
-    Refused(Refusal),
-}
-
-// The first length that fits. A longer poop can raise the mark, so each is tried.
-pub fn shortest(x: Ship, height: Span, wish: u64) -> Answer
+// The shortest poop in decimetres: the first length that fits. A longer poop can raise the mark, so each is tried.
+pub fn shortest(x: Ship, height: Span, wish: u64) -> Result<u64, Refusal>
     requires { Sound x × (x.n < 8) × (1 ≤ height.0) × (height.0 ≤ 8191) }
     ensures { reply result ≡ shortest_for x height.0 wish }
 {
     let q = trial::standing_of(x, height, wish);
-    let most = units::dm_within(x.length);
-    let mut k: u64 = 0;
-    while k <= most {
-        if trial::fits(q, k) {
-            return Answer::Poop(k);
-        }
-        k += 1;
-    }
-    Answer::Refused(Refusal::NoLengthFits)
+    (0..units::dm_within(x.length) + 1)
+        .find(|k| trial::fits(q, *k))
+        .ok_or(Refusal::NoLengthFits)
 }

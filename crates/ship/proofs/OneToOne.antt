@@ -6,44 +6,43 @@ use mathlib.Core.List.{[], ◌∷◌}
 use mathlib.Core.Path.{◌≡◌, refl, sym, ap, ◌∙◌}
 use lib.ListN.{get_or}
 use Rattle.ship.specs.declared.refusal.Refusal.TheVariants.{ShortRecord, Version, ShipType, HouseCount, RecordLength, SpareBit, FieldRange, HalfCertified, HouseExtent, Quarterdeck, Overlap, NoDraught, FreshAllowance, QuestionRange, NoRoomForPoop, NoLengthFits, ShortBuffer, OutOfOrder, LengthForType, Breadths, TimberForA}
-use Rattle.ship.specs.declared.refusal.Verdict.{Verdict}
-use Rattle.ship.specs.declared.refusal.Verdict.TheVariants.{Accepted, Refused}
-use Rattle.ship.specs.Refusals.{Paper, paper, number_of}
+use Rattle.std.specs.Prelude.{Ok, Err}
+use Rattle.ship.specs.Refusals.{Paper, Verdict, paper, number_of}
 
 -- the verdict that has a paper; no refusal is numbered 19 to 21
 verdict_of : Paper → Verdict
 verdict_of p =
     get_or
-    (Accepted ∷ Refused ShortRecord ∷ Refused Version ∷ Refused ShipType ∷ Refused HouseCount ∷ Refused RecordLength ∷ Refused SpareBit ∷ Refused (FieldRange p.place) ∷ Refused HalfCertified
-    ∷ Refused (HouseExtent p.place) ∷ Refused (Quarterdeck p.place) ∷ Refused (Overlap p.place (record { 0 = p.overlap }))
-    ∷ Refused NoDraught ∷ Refused FreshAllowance ∷ Refused QuestionRange ∷ Refused NoRoomForPoop ∷ Refused NoLengthFits ∷ Refused ShortBuffer ∷ Refused (OutOfOrder p.place) ∷ Accepted ∷ Accepted ∷ Accepted ∷ Refused LengthForType ∷ Refused (Breadths p.place) ∷ Refused TimberForA ∷ [])
+    (Ok tt ∷ Err ShortRecord ∷ Err Version ∷ Err ShipType ∷ Err HouseCount ∷ Err RecordLength ∷ Err SpareBit ∷ Err (FieldRange p.place) ∷ Err HalfCertified
+    ∷ Err (HouseExtent p.place) ∷ Err (Quarterdeck p.place) ∷ Err (Overlap p.place (record { 0 = p.overlap }))
+    ∷ Err NoDraught ∷ Err FreshAllowance ∷ Err QuestionRange ∷ Err NoRoomForPoop ∷ Err NoLengthFits ∷ Err ShortBuffer ∷ Err (OutOfOrder p.place) ∷ Ok tt ∷ Ok tt ∷ Ok tt ∷ Err LengthForType ∷ Err (Breadths p.place) ∷ Err TimberForA ∷ [])
     p.number
-    Accepted
+    (Ok tt)
 
 back : (v : Verdict) → verdict_of (paper v) ≡ v
 unfolding verdict_of
-back Accepted = refl
-back (Refused ShortRecord) = refl
-back (Refused Version) = refl
-back (Refused ShipType) = refl
-back (Refused HouseCount) = refl
-back (Refused RecordLength) = refl
-back (Refused SpareBit) = refl
-back (Refused (FieldRange k)) = refl
-back (Refused HalfCertified) = refl
-back (Refused (HouseExtent k)) = refl
-back (Refused (Quarterdeck k)) = refl
-back (Refused (Overlap k mm)) = refl
-back (Refused NoDraught) = refl
-back (Refused FreshAllowance) = refl
-back (Refused QuestionRange) = refl
-back (Refused NoRoomForPoop) = refl
-back (Refused NoLengthFits) = refl
-back (Refused ShortBuffer) = refl
-back (Refused (OutOfOrder k)) = refl
-back (Refused LengthForType) = refl
-back (Refused (Breadths k)) = refl
-back (Refused TimberForA) = refl
+back (Ok _) = refl
+back (Err ShortRecord) = refl
+back (Err Version) = refl
+back (Err ShipType) = refl
+back (Err HouseCount) = refl
+back (Err RecordLength) = refl
+back (Err SpareBit) = refl
+back (Err (FieldRange k)) = refl
+back (Err HalfCertified) = refl
+back (Err (HouseExtent k)) = refl
+back (Err (Quarterdeck k)) = refl
+back (Err (Overlap k mm)) = refl
+back (Err NoDraught) = refl
+back (Err FreshAllowance) = refl
+back (Err QuestionRange) = refl
+back (Err NoRoomForPoop) = refl
+back (Err NoLengthFits) = refl
+back (Err ShortBuffer) = refl
+back (Err (OutOfOrder k)) = refl
+back (Err LengthForType) = refl
+back (Err (Breadths k)) = refl
+back (Err TimberForA) = refl
 
 pub one_verdict : (v w : Verdict) → paper v ≡ paper w → v ≡ w
 one_verdict v w e = sym (back v) ∙ ap verdict_of e ∙ back w

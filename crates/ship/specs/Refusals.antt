@@ -1,11 +1,9 @@
 -- 01, "Refusals and their order", with 02: a refusal is a number, a place and, for 11, an overlap; the table's order is the order of checks.
-use Rattle.std.specs.Prelude.{ℕ, Bool, List, [], ◌∷◌}
+use Rattle.std.specs.Prelude.{ℕ, Bool, List, [], ◌∷◌, Result, Ok, Err}
 use Rattle.whole.specs.Pick.{pick}
 use Rattle.ship.specs.declared.refusal.Paper as Declared
 use Rattle.ship.specs.declared.refusal.Refusal.{Refusal}
 use Rattle.ship.specs.declared.refusal.Refusal.TheVariants.{ShortRecord, Version, ShipType, HouseCount, RecordLength, SpareBit, FieldRange, HalfCertified, HouseExtent, Quarterdeck, Overlap, NoDraught, FreshAllowance, QuestionRange, NoRoomForPoop, NoLengthFits, ShortBuffer, OutOfOrder, LengthForType, Breadths, TimberForA}
-use Rattle.ship.specs.declared.refusal.Verdict.{Verdict}
-use Rattle.ship.specs.declared.refusal.Verdict.TheVariants.{Accepted, Refused}
 
 -- a verdict in the papers' own terms: number, place and overlap; number 0 refuses nothing
 abbrev pub Paper : Type 0
@@ -49,9 +47,13 @@ refused_as TimberForA = refused 24 0
 abbrev pub number_of : Refusal → ℕ
 number_of r = (refused_as r).number
 
+-- what a check answers: nothing, or why it refuses
+abbrev pub Verdict : Type 0
+Verdict = Result (Unit {0}) Refusal
+
 abbrev pub paper : Verdict → Paper
-paper Accepted = accepted
-paper (Refused r) = refused_as r
+paper (Ok _) = accepted
+paper (Err r) = refused_as r
 
 -- a line of the table: whether its check fails, and what it then refuses
 abbrev pub Line : Type 0

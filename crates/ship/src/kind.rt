@@ -1,4 +1,4 @@
-// The types of regulation 27, by their number in the record. All but A are type B ships.
+// The types of regulation 27, by their number in the record. All but A are type B ships. Not an enum: `writing_of` refuses a ship of any other number by 3.
 ghost use Rattle.std.specs.Prelude.{◌≡◌};
 ghost use Rattle.ship.specs.Kinds.{is_reduced, timber_kind, timber_for_a};
 
@@ -18,10 +18,11 @@ pub const PORTABLE_COVERS: u64 = 4;
 pub fn is_reduced(kind: u64) -> bool
     ensures { result ≡ is_reduced kind }
 {
-    (kind == B_60) | (kind == B_100)
+    matches!(kind, B_60 | B_100)
 }
 
 // The type by which timber freeboards are worked: of a reduced ship the ordinary type B.
+#[tactic(auto, unfolding(whole::specs::Pick::pick, crate::specs::Kinds::timber_kind))]
 pub fn for_timber(kind: u64) -> u64
     ensures { result ≡ timber_kind kind }
 {

@@ -72,10 +72,6 @@ pub fn full_breadth(h: House) -> bool
 pub fn no_ship() -> Ship
     ensures { result ≡ no_ship }
 {
-    let none = no_house();
-    let houses = [none; 8];
-    let level = Ordinate(LIFT);
-    let sheer = [level; 6];
     Ship {
         kind: 0,
         n: 0,
@@ -85,9 +81,9 @@ pub fn no_ship() -> Ship
         moulded: Span(0),
         block: 0,
         waterplane: 0,
-        sheer,
+        sheer: [Ordinate(LIFT); 6],
         displacement: 0,
         immersion: 0,
-        houses,
+        houses: [no_house(); 8],
     }
 }

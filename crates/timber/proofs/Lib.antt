@@ -1,4 +1,3 @@
-pub mod Computed
 pub mod Bound
 pub mod Order
 pub mod OneToOne

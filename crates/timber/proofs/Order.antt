@@ -1,8 +1,8 @@
 -- The order of the timber marks, for every depth and every LS, the zeros too; LS against the ordinary S; and that the zeros tell where none is given.
 use mathlib.Core.Path.{◌≡◌, refl, sym, subst, ap}
-use mathlib.Core.Bool.{Bool, true, false}
+use mathlib.Core.Bool.{Bool, true, false, not}
 use mathlib.Core.Logic.{◌⊎◌, inl, inr}
-use Prim.Native.Nat.{ℕ, ◌-◌, ◌/◌, ◌≤◌, ◌<◌, max}
+use Prim.Native.Nat.{ℕ, ◌+◌, ◌-◌, ◌/◌, ◌≤◌, ◌<◌, max}
 use native.Mathlib.Omega.{arith}
 use lib.Dec.{T}
 use lib.IntN.{ℤ, pos, ◌+ℤ◌, ◌-ℤ◌}
@@ -10,13 +10,12 @@ use lib.Signed.{le_z, ◌≤ℤ◌, ≤ℤ_refl}
 use Rattle.whole.specs.Divide.{ceil_div}
 use Rattle.whole.specs.Pick.{pick}
 use Rattle.whole.proofs.Divide.{ceil_ge, ceil_most}
-use Rattle.whole.proofs.Integers.{parts_le, minus_above, minus_under, lower, higher}
+use Rattle.whole.proofs.Integers.{parts_le, parts_lt, minus_above, minus_under, lower, higher}
 use Rattle.whole.proofs.Pick.{pick_true, pick_false, by_cases}
 use Rattle.mark.specs.Summer.{summer_mark}
 use Rattle.mark.proofs.Bound.{mark_quotient}
 use Rattle.timber.specs.declared.TimberMarks.{TimberMarks}
 use Rattle.timber.specs.Timber.{level_of, timber_summer, timber_draught, timber_winter, timber_from, timber_given, no_timber, timber_marks}
-use Rattle.timber.proofs.Computed.{below_depth}
 
 -- what holds of the marks of every draught, and of zeros, holds of the marks
 either : (P : TimberMarks → Type 0) (reduced : Bool) (W WNA D : ℕ) (LS : ℤ)
@@ -90,6 +89,10 @@ timber_no_higher floor a t u b h =
     record { le = subst T (sym k) tt }
 
 -- so that where S is below D, LS is too, and the timber marks are given
+below_depth : (D p q : ℕ) → p < D + q → timber_given D (pos p -ℤ pos q) ≡ true
+unfolding timber_given
+below_depth D p q h = ap not (parts_lt (pos D) (pos p -ℤ pos q) (rw (minus_above p q, minus_under p q) (omega arith)))
+
 pub timber_below : (floor a t u b D : ℕ) → t ≤ u → summer_mark floor a t b < D → timber_given D (timber_summer a u) ≡ true
 unfolding level_of
 timber_below floor a t u b D h k = below_depth D (ceil_div (a - u) 1000) ((u - a) / 1000) (omega (arith, no_higher floor a t u b h))

@@ -1,11 +1,10 @@
 -- What the marks call answers, in the papers' own terms: the ordinary sheet, and the timber marks beside it where they are asked for.
-use Rattle.std.specs.Prelude.{Bool, true, false, ◌&&◌, eqb}
+use Rattle.std.specs.Prelude.{Bool, false, ◌&&◌, is_some, unwrap_or, Result, Ok, Err, eqb}
 use Rattle.whole.specs.Pick.{pick}
+use Rattle.ship.specs.declared.refusal.Refusal.{Refusal}
 use Rattle.mark.specs.Others as Mark
-use Rattle.mark.specs.declared.Answer.TheVariants as Ordinary
 use Rattle.timber.specs.declared.TimberMarks.{TimberMarks}
-use Rattle.timber.specs.declared.Answer.{Answer}
-use Rattle.timber.specs.declared.Answer.TheVariants.{Given, WithTimber, Refused}
+use Rattle.timber.specs.declared.Given.{Given}
 use Rattle.timber.specs.Timber.{no_timber}
 
 -- whether timber marks stand in the answer, and these; where they do not, they are all zero
@@ -14,10 +13,9 @@ pub record Sheet : Type 0 where
   pub given : Bool
   pub timber : TimberMarks
 
-abbrev pub sheet : Answer → Sheet
-sheet (Given m) = record { ordinary = Mark.sheet (Ordinary.Given m); given = false; timber = no_timber }
-sheet (WithTimber m t) = record { ordinary = Mark.sheet (Ordinary.Given m); given = true; timber = t }
-sheet (Refused r) = record { ordinary = Mark.sheet (Ordinary.Refused r); given = false; timber = no_timber }
+abbrev pub sheet : Result Given Refusal → Sheet
+sheet (Ok g) = record { ordinary = Mark.sheet (Ok g.ordinary); given = is_some g.timber; timber = unwrap_or g.timber no_timber }
+sheet (Err r) = record { ordinary = Mark.sheet (Err r); given = false; timber = no_timber }
 
 -- timber marks beside an ordinary sheet: only where it gives marks and they are asked for
 unfoldable pub sheet_with : Mark.Sheet → Bool → TimberMarks → Sheet

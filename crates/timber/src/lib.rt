@@ -5,7 +5,6 @@ ghost use Rattle.std.specs.Prelude.{◌≡◌, ◌^◌, ◌≤◌};
 ghost use Rattle.timber.specs.Timber.{timber_winter, timber_from, no_timber, timber_marks, level_of, signed};
 
 use mark::Marks;
-use ship::refusal::Refusal;
 use units::{Freeboard, Span};
 
 // A mark as what stands above zero and what lies below it: up less down.
@@ -26,40 +25,36 @@ pub struct TimberMarks {
     pub ltf: i64,
 }
 
-// The marks, with the timber marks beside them where they are asked for, or what is refused.
+// What is given where nothing is refused: the marks, with the timber marks beside them where they are asked for.
 #[derive(Clone, Copy)]
-pub enum Answer {
-    Given(Marks),
-    WithTimber(Marks, TimberMarks),
-    Refused(Refusal),
+pub struct Given {
+    pub ordinary: Marks,
+    pub timber: Option<TimberMarks>,
 }
 
 // LS: what is added less what is taken.
+#[tactic(auto, unfolding(crate::specs::Timber::level_of))]
 pub fn level_of(added: Freeboard, taken: Freeboard) -> Level
     requires { (added.0 ≤ 2 ^ 40) × (taken.0 ≤ 2 ^ 40) }
     ensures value { result ≡ level_of added.0 taken.0 }
     ensures up_bound { (result.up ≤ 2 ^ 31) × (result.down ≤ 2 ^ 31) }
 {
-    let m = added.0;
-    let n = taken.0;
-    let up = whole::div_up(whole::less(m, n), 1000);
-    let down = whole::less(n, m) / 1000;
+    let up = whole::div_up(whole::less(added.0, taken.0), 1000);
+    let down = whole::less(taken.0, added.0) / 1000;
     Level { up, down }
 }
 
 // LW, which on a reduced ship is level with its W where it would be greater. Both are counted from `down` below zero, so that neither is negative.
+#[tactic(auto, unfolding(crate::specs::Timber::timber_winter, whole::specs::Pick::pick))]
 fn winter_of(reduced: bool, w: u64, s: Level, d: u64) -> i64
     requires { (w ≤ 2 ^ 30) × (s.up ≤ 2 ^ 31) × (s.down ≤ 2 ^ 31) × (d ≤ 2 ^ 32) }
     ensures { result ≡ timber_winter reduced w (signed s) d }
 {
-    let up = s.up;
-    let down = s.down;
-    let more = whole::div_up(d, 36);
-    let top = up + more;
+    let top = s.up + whole::div_up(d, 36);
     if reduced {
-        return whole::minus(whole::lesser(top, w + down), down);
+        return whole::minus(whole::lesser(top, w + s.down), s.down);
     }
-    whole::minus(top, down)
+    whole::minus(top, s.down)
 }
 
 // All six, from LS and the timber summer draught d.
@@ -67,24 +62,20 @@ fn six_marks(reduced: bool, w: u64, wna: u64, s: Level, d: u64) -> TimberMarks
     requires { (w ≤ 2 ^ 30) × (s.up ≤ 2 ^ 31) × (s.down ≤ 2 ^ 31) × (d ≤ 2 ^ 32) }
     ensures { result ≡ timber_from reduced w wna (signed s) d }
 {
-    let up = s.up;
-    let down = s.down;
-    let once = down + d / 48;
-    let ls = whole::minus(up, down);
-    let lt = whole::minus(up, once);
-    let ltf = whole::minus(up, once + d / 48);
-    let lw = winter_of(reduced, w, s, d);
+    let once = s.down + d / 48;
+    let lt = whole::minus(s.up, once);
     TimberMarks {
-        ls,
+        ls: whole::minus(s.up, s.down),
         lt,
-        lw,
+        lw: winter_of(reduced, w, s, d),
         lwna: wna,
         lf: lt,
-        ltf,
+        ltf: whole::minus(s.up, once + d / 48),
     }
 }
 
 // What stands where no timber marks are given.
+#[tactic(auto, unfolding(crate::specs::Timber::no_timber))]
 pub fn none() -> TimberMarks
     ensures { result ≡ no_timber }
 {
@@ -99,16 +90,15 @@ pub fn none() -> TimberMarks
 }
 
 // All six from LS, beside the ordinary W and WNA; or zeros where LS is at or above the depth.
+#[tactic(auto, unfolding(crate::specs::Timber::timber_marks, crate::specs::Timber::timber_given, crate::specs::Timber::timber_draught, whole::specs::Pick::pick))]
 pub fn follow(reduced: bool, w: u64, wna: u64, depth: Span, s: Level) -> TimberMarks
     requires { (w ≤ 2 ^ 30) × (depth.0 ≤ 2 ^ 30) × (s.up ≤ 2 ^ 31) × (s.down ≤ 2 ^ 31) }
     ensures { result ≡ timber_marks reduced w wna depth.0 (signed s) }
 {
-    let mm = depth.0;
-    let up = s.up;
     // D, counted as `up` is, from `down` below zero.
-    let keel = mm + s.down;
-    if keel <= up {
+    let keel = depth.0 + s.down;
+    if keel <= s.up {
         return none();
     }
-    six_marks(reduced, w, wna, s, keel - up)
+    six_marks(reduced, w, wna, s, keel - s.up)
 }

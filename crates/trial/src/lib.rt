@@ -8,7 +8,7 @@ ghost use Rattle.trial.specs.Standing.{room_of, standing_of, deck_for, marked_on
 
 use deck::Deck;
 use hull::Hull;
-use mark::{Answer, Particulars};
+use mark::Particulars;
 use ship::{House, Ship};
 use units::{Ratio, Span};
 
@@ -26,30 +26,27 @@ pub struct Standing {
 }
 
 // How far a poop may reach: to the first house, or to L.
+#[tactic(auto, unfolding(crate::specs::Standing::room_of, whole::specs::Pick::pick))]
 fn room_of(x: Ship) -> Span
     ensures { result.0 ≡ room_of x }
 {
     if x.n == 0 {
         return x.length;
     }
-    let hs = x.houses;
-    let h = hs[0];
-    let ap = units::forward_of_ap(Span(0));
-    units::between(ap, h.aft)
+    units::between(units::forward_of_ap(Span(0)), x.houses[0].aft)
 }
 
 // The poop of `k` decimetres, of full breadth.
+#[tactic(auto, unfolding(crate::specs::Poop::poop_house))]
 fn poop_house(height: Span, k: u64) -> House
     requires { k ≤ 3650 }
     ensures { result ≡ poop_house height.0 k }
 {
-    let aft = units::forward_of_ap(Span(0));
-    let fore = units::forward_of_ap(units::span_of_dm(k));
     House {
         enclosed: true,
         quarterdeck: false,
-        aft,
-        fore,
+        aft: units::forward_of_ap(Span(0)),
+        fore: units::forward_of_ap(units::span_of_dm(k)),
         height,
         breadth: Span(0),
         beam: Span(0),
@@ -57,40 +54,34 @@ fn poop_house(height: Span, k: u64) -> House
 }
 
 // What no length changes, worked for a ship, a height of poop and a wish.
+#[tactic(auto, unfolding(crate::specs::Standing::standing_of, hull::specs::Parts::hull_of, crate::specs::Poop::poop_house))]
 pub fn standing_of(x: Ship, height: Span, wish: u64) -> Standing
     requires { Sound x × (x.n < 8) × (1 ≤ height.0) × (height.0 ≤ 8191) }
     ensures value { result ≡ standing_of x height.0 wish }
     ensures fair { Fair result }
 {
-    let hs = x.houses;
     let hull = hull::hull_of(x);
-    let deck = deck::deck_of(x.length, hs, x.n);
-    let ratio = effective::height_ratio(x.length, poop_house(height, 0));
-    let room = room_of(x);
-    let particulars = hull::particulars_of(x, hull.basis.floor);
     Standing {
         hull,
-        deck,
-        ratio,
-        room,
-        particulars,
+        deck: deck::deck_of(x.length, x.houses, x.n),
+        ratio: effective::height_ratio(x.length, poop_house(height, 0)),
+        room: room_of(x),
+        particulars: hull::particulars_of(x, hull.basis.floor),
         height,
         wish,
     }
 }
 
 // The deck with a poop of `k` decimetres; none where `k` is 0.
+#[tactic(auto, unfolding(crate::specs::Standing::deck_for, whole::specs::Pick::pick))]
 fn deck_for(q: Standing, k: u64) -> Deck
     requires { Fair q × (100 * k ≤ q.hull.length.0) }
     ensures { result ≡ deck_for q k }
 {
-    let hull = q.hull;
-    let deck = q.deck;
     if k == 0 {
-        return deck;
+        return q.deck;
     }
-    let height = q.height;
-    deck::with_house(hull.length, poop_house(height, k), q.ratio, deck)
+    deck::with_house(q.hull.length, poop_house(q.height, k), q.ratio, q.deck)
 }
 
 // Whether the marks that follow from `s` are given, with S at most the wish.
@@ -98,24 +89,14 @@ fn marked(q: Standing, s: u64) -> bool
     requires { Fair q }
     ensures { result ≡ marked_on q s }
 {
-    let a = mark::follow(q.particulars, s);
-    match a {
-        Answer::Given(m) => m.s <= q.wish,
-        Answer::Refused(_) => false,
-    }
+    mark::follow(q.particulars, s).is_ok_and(|m| m.s <= q.wish)
 }
 
 // Whether a poop of `k` decimetres fits. Of checks 9 to 11, 18 and 23 only the overlap with the first house can refuse it.
+#[tactic(auto, unfolding(crate::specs::Standing::fits_on))]
 pub fn fits(q: Standing, k: u64) -> bool
     requires { Fair q × (100 * k ≤ q.hull.length.0) }
     ensures { result ≡ fits_on q k }
 {
-    let poop = units::span_of_dm(k);
-    let room = q.room;
-    if room.0 < poop.0 {
-        return false;
-    }
-    let hull = q.hull;
-    let d = deck_for(q, k);
-    marked(q, summer::summer_on(hull, d))
+    units::span_of_dm(k).0 <= q.room.0 && marked(q, summer::summer_on(q.hull, deck_for(q, k)))
 }

@@ -4,8 +4,7 @@ use mathlib.Core.List.{List}
 use mathlib.Core.Path.{◌≡◌, sym, ap, ◌∙◌}
 use lib.ListN.{length}
 use Rattle.ship.specs.declared.Ship.{Ship}
-use Rattle.ship.specs.declared.refusal.Verdict.{Verdict}
-use Rattle.ship.specs.Refusals.{Paper, paper}
+use Rattle.ship.specs.Refusals.{Paper, Verdict, paper}
 use Rattle.ship.proofs.OneToOne.{one_verdict}
 use Rattle.record.specs.Writing.{writing_of, written}
 

@@ -9,16 +9,13 @@ ghost use Rattle.record.specs.Layout.{HousesFit, lowest_for, head_widths, head_f
 ghost use Rattle.record.specs.Writing.{bytes_for, writing_of, written};
 
 use record::{HEAD_BYTES, Head};
-use ship::refusal::{Refusal, Verdict};
+use ship::refusal::Refusal;
 use ship::{Ship, kind, refusal};
 
 // The head of a ship's record in a version.
 fn head_of(x: Ship, version: u64) -> Head
     ensures { result ≡ head_for version x }
 {
-    let length = x.length;
-    let depth = x.depth;
-    let moulded = x.moulded;
     let sheer = x.sheer;
     Head {
         version,
@@ -26,9 +23,9 @@ fn head_of(x: Ship, version: u64) -> Head
         count: x.n as u64,
         timber: x.timber,
         spare: 0,
-        length,
-        depth,
-        moulded,
+        length: x.length,
+        depth: x.depth,
+        moulded: x.moulded,
         block: x.block,
         waterplane: x.waterplane,
         sheer,
@@ -52,36 +49,31 @@ fn put_record(buf: &mut [u8], x: Ship)
 }
 
 // The verdict on writing a ship into `room` bytes: refusals 3, 24, 4, 7 to 11, 18, 22, 23 and 17, in the table's order.
-fn verdict(x: Ship, room: usize) -> Verdict
+#[tactic(auto, unfolding(whole::specs::Pick::pick, ship::specs::Refusals::first, record::specs::Writing::writing_of))]
+fn verdict(x: Ship, room: usize) -> Result<(), Refusal>
     ensures { paper result ≡ writing_of room x }
 {
     if x.kind > record::LAST_TYPE {
-        return Verdict::Refused(Refusal::ShipType);
+        return Err(Refusal::ShipType);
     }
     if kind::timber_for_a(x.kind, x.timber) {
-        return Verdict::Refused(Refusal::TimberForA);
+        return Err(Refusal::TimberForA);
     }
     if x.n as u64 > record::MOST_HOUSES {
-        return Verdict::Refused(Refusal::HouseCount);
+        return Err(Refusal::HouseCount);
     }
+    checks::of_ship(x)?;
     let short = room < record::record_length(record::lowest_for(x), x.n);
-    let last = refusal::line(short, Refusal::ShortBuffer, Verdict::Accepted);
-    let checked = checks::of_ship(x);
-    refusal::after(checked, last)
+    refusal::line(short, Refusal::ShortBuffer)
 }
 
 // Writes a ship's record at the start of `buf`, unless it is refused.
-pub fn write(buf: &mut [u8], x: Ship) -> Verdict
+#[tactic(auto, unfolding(whole::specs::Pick::pick, record::specs::Writing::written))]
+pub fn write(buf: &mut [u8], x: Ship) -> Result<(), Refusal>
     ensures result_value { paper result ≡ writing_of (length buf.old) x }
     ensures buf_after { buf.new ≡ written (paper result) x buf.old }
 {
-    let v = verdict(x, buf.len());
-    let good = match v {
-        Verdict::Accepted => true,
-        Verdict::Refused(_) => false,
-    };
-    if good {
-        put_record(buf, x);
-    }
-    v
+    verdict(x, buf.len())?;
+    put_record(buf, x);
+    Ok(())
 }

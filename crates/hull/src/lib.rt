@@ -12,7 +12,7 @@ use corrections::{depth, fullness};
 use mark::Particulars;
 use sheer::Mean;
 use ship::{Ship, kind};
-use units::{Freeboard, Span};
+use units::{Freeboard, Length, Span};
 
 // What the type decides (27, 28, 40), depth and what it adds (31), the mean of the sheer (38), and the bow height asked for before the forecastle is taken (39).
 // The block coefficient is the one that counts (30).
@@ -28,6 +28,14 @@ pub struct Hull {
     pub bow: Height,
 }
 
+// L of a ship that the reader accepts.
+pub fn length_of(x: Ship) -> Length
+    requires { Sound x }
+    ensures { result.mm ≡ x.length.0 }
+{
+    Length { mm: x.length.0 }
+}
+
 // The hull of a ship that the reader accepts.
 #[tactic(auto, unfolding(crate::specs::Parts::hull_of))]
 pub fn hull_of(x: Ship) -> Hull
@@ -35,23 +43,17 @@ pub fn hull_of(x: Ship) -> Hull
     ensures value { result ≡ hull_of x }
     ensures fair_hull { FairHull result }
 {
+    let l = length_of(x);
     let block = fullness::counted_block(x.block);
     Hull {
         b: x.kind != kind::A,
         length: x.length,
         block,
-        basis: basis::basis_of(x.kind, x.length),
+        basis: basis::basis_of(x.kind, l),
         depth: x.depth,
-        deep: depth::addition(x.length, x.depth),
-        mean: sheer::mean_sheer(x.length, x.sheer),
-        bow: bow::asked(
-            x.length,
-            x.moulded,
-            block,
-            x.waterplane,
-            x.sheer[4],
-            x.sheer[5],
-        ),
+        deep: depth::addition(l, x.depth),
+        mean: sheer::mean_sheer(l, x.sheer),
+        bow: bow::asked(l, x.moulded, block, x.waterplane, x.sheer[4], x.sheer[5]),
     }
 }
 
@@ -61,7 +63,7 @@ pub fn timber_line(x: Ship) -> Freeboard
     ensures result_value { result.0 ≡ (timber_basis x).line }
     ensures result_bound { result.0 ≤ 6400000 }
 {
-    basis::basis_of(kind::for_timber(x.kind), x.length).line
+    basis::basis_of(kind::for_timber(x.kind), length_of(x)).line
 }
 
 // What the other marks need of a ship. The floor is the least freeboard that its type decides.

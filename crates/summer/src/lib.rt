@@ -13,7 +13,7 @@ use deck::Deck;
 use hull::Hull;
 use percentages::Row;
 use timber::Level;
-use units::{Effective, Freeboard, Span};
+use units::{Effective, Freeboard, Length};
 
 // What is added and what is taken, which meet only in a mark.
 #[derive(Clone, Copy)]
@@ -32,9 +32,9 @@ pub struct Vessel {
 }
 
 // The houses' deduction (37) for an effective length `e`, by a row of percentages.
-fn deduction_by(row: Row, l: Span, e: Effective) -> Freeboard
-    requires { (24000 ≤ l.0) × (l.0 ≤ 365000) × (e.0 ≤ 1000 * l.0) }
-    ensures result_value { result.0 ≡ deduction (entries row) l.0 e.0 }
+fn deduction_by(row: Row, l: Length, e: Effective) -> Freeboard
+    requires { (24000 ≤ l.mm) × (e.0 ≤ 1000 * l.mm) }
+    ensures result_value { result.0 ≡ deduction (entries row) l.mm e.0 }
     ensures result_bound { result.0 ≤ 1070000 }
 {
     let j = deduction::tenth_of(l, e);
@@ -44,6 +44,15 @@ fn deduction_by(row: Row, l: Span, e: Effective) -> Freeboard
 }
 
 impl Vessel {
+    // L.
+    fn length(self) -> Length
+        ensures { result.mm ≡ self.hull.length.0 }
+    {
+        Length {
+            mm: self.hull.length.0,
+        }
+    }
+
     // What is added: the line, made greater for short B ships (29) and fullness (30), then what depth adds (31), then sheer where it is lacking (38).
     #[tactic(auto, unfolding(crate::specs::Parts::added_on))]
     fn added(self, line: Freeboard, e: Effective, lacking: Freeboard) -> Freeboard
@@ -52,7 +61,7 @@ impl Vessel {
         ensures result_bound { result.0 ≤ 2 ^ 32 }
     {
         let h = self.hull;
-        let full = before_sheer::made_full(line, h.b, h.length, h.block, e);
+        let full = before_sheer::made_full(line, h.b, self.length(), h.block, e);
         units::sum(units::sum(full, h.deep), lacking)
     }
 
@@ -66,9 +75,10 @@ impl Vessel {
     {
         let h = self.hull;
         let d = self.deck;
-        let shallow = depth::reduction(h.length, h.depth, d.amidships);
-        let full = deduction_by(row, h.length, e);
-        let granted = deduction::if_granted(h.b, d.forecastle.effective, h.length, full);
+        let l = self.length();
+        let shallow = depth::reduction(l, h.depth, d.amidships);
+        let full = deduction_by(row, l, e);
+        let granted = deduction::if_granted(h.b, d.forecastle.effective, l, full);
         units::sum(units::sum(shallow, granted), excess)
     }
 
@@ -82,7 +92,7 @@ impl Vessel {
         let h = self.hull;
         let d = self.deck;
         let e = summed::effective_length(d.effective);
-        let c = sheer_correction::correct(h.mean, h.length, d.s, d.reach);
+        let c = sheer_correction::correct(h.mean, self.length(), d.s, d.reach);
         Balance {
             added: self.added(line, e, c.added),
             taken: self.taken(row, e, c.deducted),
@@ -97,7 +107,7 @@ impl Vessel {
         let h = self.hull;
         let f = self.deck.forecastle;
         let b = self.balance(h.basis.line, Row::Ordinary);
-        let bow = bow::freeboard(h.bow, h.length, f.part, f.height);
+        let bow = bow::freeboard(h.bow, self.length(), f.part, f.height);
         mark::summer(h.basis.floor, b.added, b.taken, bow)
     }
 

@@ -50,7 +50,7 @@ impl Measures {
         ensures result_bound { result.0 ≤ 2 ^ 48 }
     {
         let b1 = whole::div_up(self.cubic(), 5000000000);
-        let b2 = whole::div_up(whole::less(self.rise(), self.fall()), 170 * self.m.0);
+        let b2 = whole::div_up(self.rise().saturating_sub(self.fall()), 170 * self.m.0);
         Freeboard(whole::mul_div_up(b1, b2, 1000000))
     }
 
@@ -60,7 +60,7 @@ impl Measures {
         ensures result_bound { result.0 ≤ 2 ^ 48 }
     {
         let b1 = self.cubic() / 5000000000;
-        let b2 = whole::less(self.fall(), self.rise()) / (170 * self.m.0);
+        let b2 = self.fall().saturating_sub(self.rise()) / (170 * self.m.0);
         Freeboard(b1 * b2 / 1000000)
     }
 }

@@ -4,7 +4,7 @@ ghost use Rattle.whole.specs.Frac.{frac};
 ghost use Rattle.corrections.specs.Depth31.{depth_addition, depth_reduction};
 
 use units::{Freeboard, Length, Ratio, Span};
-use whole::{less, mul_div_down, mul_div_up};
+use whole::{mul_div_down, mul_div_up};
 
 #[tactic(auto, using(crate::proofs::Depth31::addition_none, crate::proofs::Depth31::addition_to_120, crate::proofs::Depth31::addition_from_120, crate::proofs::Depth31::depth_most))]
 pub fn addition(length: Length, depth: Span) -> Freeboard
@@ -34,7 +34,7 @@ pub fn reduction(length: Length, depth: Span, ratio: Ratio) -> Freeboard
     let d = depth.0;
     let top = ratio.top;
     let bottom = ratio.bottom;
-    let lacking = less(l, 15 * d); // in fifteenths of a millimetre
+    let lacking = l.saturating_sub(15 * d); // in fifteenths of a millimetre
     // either way nothing is taken, and nothing need be divided
     if lacking == 0 {
         return Freeboard(0);

@@ -3,14 +3,14 @@ ghost use Rattle.std.specs.Prelude.{◌≡◌, ◌*◌, ◌^◌, ◌≤◌};
 ghost use Rattle.corrections.specs.Fullness30.{counted, fullness};
 
 use units::Freeboard;
-use whole::{lesser, mul_div_up};
+use whole::mul_div_up;
 
 // The block coefficient as it counts, in 1/10000.
 pub fn counted_block(cb: u64) -> u64
     ensures value { result ≡ counted cb }
     ensures upper_bound { result ≤ 10000 }
 {
-    lesser(cb, 10000)
+    cb.min(10000)
 }
 
 // The sum so far, for a Cb that counts.

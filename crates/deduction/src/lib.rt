@@ -8,7 +8,7 @@ ghost use Rattle.deduction.specs.Deduction37.{full, of_full, lacks_forecastle};
 ghost use Rattle.deduction.specs.Tenth37.{tenth, share_from};
 
 use units::{Effective, Freeboard, Length, Unrounded, freeboard_of_mm, sum};
-use whole::{lesser, mul_div_down};
+use whole::mul_div_down;
 
 // The full amount, for a ship whose houses cover all of its length.
 #[tactic(auto, using(crate::proofs::Deduction37::full_to_85, crate::proofs::Deduction37::full_to_122, crate::proofs::Deduction37::full_from_122))]
@@ -42,7 +42,7 @@ pub fn tenth_of(length: Length, effective: Effective) -> usize
 {
     let l = length.mm;
     let e = effective.0;
-    lesser(e / (100 * l), 9) as usize
+    (e / (100 * l)).min(9) as usize
 }
 
 // The share of the full amount, in millionths, between the percentages p and q (in tenths of a per cent) at the ends of E's tenth.

@@ -49,7 +49,7 @@ fn tropical_of(floor: u64, s: u64, d: u64) -> u64
     ensures value { result ≡ tropical floor s d }
     ensures upper_bound { result ≤ floor + s }
 {
-    whole::greater(floor, whole::less(s, d / 48))
+    floor.max(s.saturating_sub(d / 48))
 }
 
 // W.

@@ -76,7 +76,7 @@ impl Halves {
         if 30000 * self.forward < LIFT7 + 1334 * (mm + 30000) {
             return 0;
         }
-        whole::less(30000 * self.after, LIFT7 + 667 * (mm + 30000))
+        (30000 * self.after).saturating_sub(LIFT7 + 667 * (mm + 30000))
     }
 
     // What of a forward excess counts: none where the after half has 50 per cent of its standard w or less, all from 75 on. There w cancels; it stays in the
@@ -87,9 +87,9 @@ impl Halves {
     {
         let mm = self.l.mm;
         let w = 667 * (mm + 30000);
-        let excess = whole::less(30000 * self.forward, LIFT7 + 1334 * (mm + 30000));
+        let excess = (30000 * self.forward).saturating_sub(LIFT7 + 1334 * (mm + 30000));
         // So many of w: 4 times what the after sum has above 50 per cent of w, which is w at 75 per cent.
-        let part = whole::less(120000 * self.after, 4 * LIFT7 + 2 * w);
+        let part = (120000 * self.after).saturating_sub(4 * LIFT7 + 2 * w);
         let counted = excess * part;
         if counted == 0 {
             return Credit { top: 0, bottom: 1 };
@@ -112,8 +112,8 @@ impl Halves {
         ensures upper_bound { result ≤ 4300000000 }
     {
         let mm = self.l.mm;
-        whole::less(LIFT7 + 667 * (mm + 30000), 30000 * self.after)
-            + whole::less(LIFT7 + 1334 * (mm + 30000), 30000 * self.forward)
+        (LIFT7 + 667 * (mm + 30000)).saturating_sub(30000 * self.after)
+            + (LIFT7 + 1334 * (mm + 30000)).saturating_sub(30000 * self.forward)
     }
 
     // The mean of both halves, rounded down. Where the credit's bottom is 1 it is over the constant 480, by which the compiler divides with a product, as long as it

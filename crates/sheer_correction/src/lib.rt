@@ -51,7 +51,7 @@ impl Cover {
             return Freeboard(0);
         }
         let full = whole::mul_div_down(covered, 3 * mm - 2 * self.s.0, 8 * (mm * mm));
-        Freeboard(whole::lesser(full, 5 * mm / 4))
+        Freeboard(full.min(5 * mm / 4))
     }
 }
 

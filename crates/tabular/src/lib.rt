@@ -54,6 +54,6 @@ pub fn covers_add(l: Span) -> Freeboard
     ensures result_value { result.0 ≡ covers_add l.0 }
     ensures result_bound { result.0 ≤ 358000 }
 {
-    let counted = Span(whole::greater(l.0, 1000 * COVERS_FIRST));
+    let counted = Span(l.0.max(1000 * COVERS_FIRST));
     tabular(table27::table(), COVERS_FIRST, counted)
 }

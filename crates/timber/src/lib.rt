@@ -41,8 +41,8 @@ pub fn level_of(added: Freeboard, taken: Freeboard) -> Level
     ensures value { result ≡ level_of added.0 taken.0 }
     ensures up_bound { (result.up ≤ 2 ^ 31) × (result.down ≤ 2 ^ 31) }
 {
-    let up = whole::div_up(whole::less(added.0, taken.0), 1000);
-    let down = whole::less(taken.0, added.0) / 1000;
+    let up = whole::div_up(added.0.saturating_sub(taken.0), 1000);
+    let down = taken.0.saturating_sub(added.0) / 1000;
     Level { up, down }
 }
 
@@ -54,7 +54,7 @@ fn winter_of(reduced: bool, w: u64, s: Level, d: u64) -> i64
 {
     let top = s.up + whole::div_up(d, 36);
     if reduced {
-        return whole::minus(whole::lesser(top, w + s.down), s.down);
+        return whole::minus(top.min(w + s.down), s.down);
     }
     whole::minus(top, s.down)
 }

@@ -6,7 +6,7 @@ pub tabular-requires-clause-table_rises : goal.tabular-requires-clause-table_ris
 tabular-requires-clause-table_rises c = rw c.table.ensures (non_decreasing rows_27)
 
 pub tabular-requires-clause-row_in_table : goal.tabular-requires-clause-row_in_table
-tabular-requires-clause-row_in_table c = rw (c.table.ensures, rows_27.count) (omega (arith, c.greater.ensures))
+tabular-requires-clause-row_in_table c = rw (c.table.ensures, rows_27.count) (omega (arith, c.max.ensures))
 
 pub returns-clause-result_bound : goal.returns-clause-result_bound
-returns-clause-result_bound c = rw (c.tabular.ensures, c.table.ensures) (omega (arith, at_most rows_27 108 c.greater.result (omega (arith, c.greater.ensures))))
+returns-clause-result_bound c = rw (c.tabular.ensures, c.table.ensures) (omega (arith, at_most rows_27 108 c.max.result (omega (arith, c.max.ensures))))

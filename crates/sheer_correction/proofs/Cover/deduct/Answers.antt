@@ -9,4 +9,4 @@ returns-then-covered-eq0-clause-result_value c =
 pub returns-clause-result_value : goal.returns-clause-result_value
 returns-clause-result_value c =
     let s = c.args.self in
-    rw (c.lesser.ensures, c.mul_div_down-full.ensures) (deduction_quotient c.args.excess.0 s.l.mm s.s.0 s.reach (omega arith))
+    rw (c.min.ensures, c.mul_div_down-full.ensures) (deduction_quotient c.args.excess.0 s.l.mm s.s.0 s.reach (omega arith))

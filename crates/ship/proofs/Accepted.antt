@@ -1,14 +1,15 @@
 -- What an accepted ship shows: each check that it passed, turned back into the fact that it tests.
 use Prim.Native.Nat.{ℕ, zero, suc, ◌+◌, ◌-◌, ◌*◌, ◌≤◌, ◌<◌}
-use mathlib.Core.Bool.{Bool, true, false, not, ◌||◌, ◌&&◌, beq, true≢false}
+use mathlib.Core.Bool.{true, false}
 use mathlib.Core.List.{List}
-use mathlib.Core.Path.{◌≡◌, refl, sym, ap, ◌∙◌}
-use lib.Dec.{eqb, ltb, leb}
+use mathlib.Core.Path.{◌≡◌, ap}
 use lib.ListN.{length, get_or}
-use borrow.Author.Tests.{ltb-false, leb-false, eqb-true, eqb-false, not-false}
+use borrow.Author.Tests.{ltb-false}
 use native.Mathlib.Decide.{dec_lt}
 use native.Mathlib.Numerals.{add-one}
 use native.Mathlib.Omega.{arith}
+use Rattle.std.proofs.lemmas.Bool.{or_parts}
+use Rattle.std.proofs.lemmas.Bool.Decides.{nat_tests}
 use Rattle.units.specs.Datum.{station_of}
 use Rattle.ship.specs.declared.House.{House}
 use Rattle.ship.specs.declared.Ship.{Ship}
@@ -20,14 +21,13 @@ use Rattle.ship.specs.Kinds.{kind_b60, kind_b100, kind_covers}
 use Rattle.ship.specs.Checks.{least, most, outside, fields_of, field_out, reduced_short, covers_long, one_alone, bad_ends, bad_breadths, bad_quarterdeck, fore_before, breaks, breach_at, first_breach, house_lines, ship_lines}
 use Rattle.ship.specs.Good.{Good, GoodHouses}
 use Rattle.ship.proofs.First.{none_before}
-use Rattle.ship.proofs.Lines.{or_false, all_pass, first_passed}
+use Rattle.ship.proofs.Lines.{all_pass, first_passed}
 
 -- 7: a field before the first that is outside is in its range
 pub in_range : (fields : List ℕ) (k : ℕ) → k < field_out fields → (get_or least k 0 ≤ get_or fields k 0) × (get_or fields k 0 ≤ get_or most k 0)
 unfolding field_out
 in_range fields k h =
-    let e = or_false (ltb (get_or fields k 0) (get_or least k 0)) (ltb (get_or most k 0) (get_or fields k 0)) (none_before (outside fields) 0 13 k (omega arith) h) in
-    (ltb-false (get_or fields k 0) (get_or least k 0) e.0, ltb-false (get_or most k 0) (get_or fields k 0) e.1)
+    let e = none_before (outside fields) 0 13 k (omega arith) h in grind (arith, nat_tests)
 
 -- 9 to 11, 18 and 23: a house before the first breach breaks no rule
 pub obeys : (r : Rule) (l : ℕ) (hs : List House) → length hs ≤ first_breach r l hs → (k : ℕ) → k < length hs → breaks r l (fore_before hs k) (house_at hs k) ≡ false
@@ -37,42 +37,13 @@ obeys r l hs h k g = none_before (breach_at r l hs) 0 (length hs) k (omega arith
 module _ (l : ℕ) (h : House) where
   pub ends_of : bad_ends l h ≡ false → (h.aft.0 < h.fore.0) × (station_of 0 < h.fore.0) × (h.aft.0 < station_of l) × (station_of 0 - 20000 ≤ h.aft.0)
       × (h.fore.0 ≤ station_of (l + 20000)) × (1 ≤ h.height.0) × (h.height.0 ≤ 8191)
-  ends_of e =
-      let a = h.aft.0 in
-      let f = h.fore.0 in
-      let t = h.height.0 in
-      let s = or_false (leb f a || leb f (station_of 0) || leb (station_of l) a || ltb a (station_of 0 - 20000) || ltb (station_of (l + 20000)) f || ltb t 1) (ltb 8191 t) e in
-      let u = or_false (leb f a || leb f (station_of 0) || leb (station_of l) a || ltb a (station_of 0 - 20000) || ltb (station_of (l + 20000)) f) (ltb t 1) s.0 in
-      let v = or_false (leb f a || leb f (station_of 0) || leb (station_of l) a || ltb a (station_of 0 - 20000)) (ltb (station_of (l + 20000)) f) u.0 in
-      let w = or_false (leb f a || leb f (station_of 0) || leb (station_of l) a) (ltb a (station_of 0 - 20000)) v.0 in
-      let x = or_false (leb f a || leb f (station_of 0)) (leb (station_of l) a) w.0 in
-      let y = or_false (leb f a) (leb f (station_of 0)) x.0 in (
-        leb-false f a y.0,
-        leb-false f (station_of 0) y.1,
-        leb-false (station_of l) a x.1,
-        ltb-false a (station_of 0 - 20000) w.1,
-        ltb-false (station_of (l + 20000)) f v.1,
-        ltb-false t 1 u.1,
-        ltb-false 8191 t s.1,
-      )
+  ends_of e = grind (arith, nat_tests)
 
   breadths_of_lem : bad_breadths h ≡ false → (h.breadth.0 ≤ h.beam.0) × (23 * h.beam.0 ≤ 25 * h.breadth.0) × (h.beam.0 ≤ 65535)
-  breadths_of_lem e =
-      let b = h.breadth.0 in
-      let s = h.beam.0 in
-      let t = or_false (one_alone b s || ltb s b || ltb (25 * b) (23 * s) || ltb 65535 b) (ltb 65535 s) e in
-      let u = or_false (one_alone b s || ltb s b || ltb (25 * b) (23 * s)) (ltb 65535 b) t.0 in
-      let v = or_false (one_alone b s || ltb s b) (ltb (25 * b) (23 * s)) u.0 in
-      let w = or_false (one_alone b s) (ltb s b) v.0 in
-      (ltb-false s b w.1, ltb-false (25 * b) (23 * s) v.1, ltb-false 65535 s t.1)
+  breadths_of_lem e = grind (arith, nat_tests)
 
   deck_of_lem : bad_quarterdeck l h ≡ false → h.quarterdeck ≡ true → (h.enclosed ≡ true) × (h.aft.0 ≤ station_of 0) × (h.fore.0 < station_of l)
-  deck_of_lem e q =
-      let b : (not h.enclosed || ltb (station_of 0) h.aft.0 || leb (station_of l) h.fore.0) ≡ false =
-      sym (ap (λ (d : Bool). d && (not h.enclosed || ltb (station_of 0) h.aft.0 || leb (station_of l) h.fore.0)) q) ∙ e in
-      let s = or_false (not h.enclosed || ltb (station_of 0) h.aft.0) (leb (station_of l) h.fore.0) b in
-      let t = or_false (not h.enclosed) (ltb (station_of 0) h.aft.0) s.0 in
-      (not-false h.enclosed t.0, ltb-false (station_of 0) h.aft.0 t.1, leb-false (station_of l) h.fore.0 s.1)
+  deck_of_lem e q = grind (arith, nat_tests)
 
 pub good_houses : (l : ℕ) (hs : List House) → (first (house_lines l hs)).number ≡ 0 → GoodHouses l hs
 unfolding breaks
@@ -114,30 +85,19 @@ later l hs g j (suc k) p q =
     ]
 
 certified_of : (a b : ℕ) → one_alone a b ≡ false → (0 < a → 0 < b) × (0 < b → 0 < a)
-certified_of a b e = go (eqb a 0) (eqb b 0) refl refl e
-  where
-    go : (p q : Bool) → eqb a 0 ≡ p → eqb b 0 ≡ q → not (beq p q) ≡ false → (0 < a → 0 < b) × (0 < b → 0 < a)
-    go true true f g e = let m = eqb-true a 0 f in let n = eqb-true b 0 g in (λ h. omega arith, λ h. omega arith)
-    go true false f g e = absurd (true≢false e)
-    go false true f g e = absurd (true≢false e)
-    go false false f g e =
-        let m : ¬ (a ≡ 0) = eqb-false a 0 f in
-        let n : ¬ (b ≡ 0) = eqb-false b 0 g in
-        (λ h. omega arith, λ h. omega arith)
+certified_of a b e = grind (arith, nat_tests)
 
 -- 22: a length that its type admits
 reduced_of : (kind l : ℕ) → reduced_short kind l ≡ false → (kind ≡ kind_b60 → 100000 < l) × (kind ≡ kind_b100 → 100000 < l)
-reduced_of kind l e =
-    let of : (c : ℕ) → kind ≡ c → reduced_short c l ≡ false = λ c k. sym (ap (λ (c : ℕ). reduced_short c l) k) ∙ e in
-    (λ k. leb-false l 100000 (of kind_b60 k), λ k. leb-false l 100000 (of kind_b100 k))
+reduced_of kind l e = grind (arith, nat_tests)
 
 covers_of : (kind l : ℕ) → covers_long kind l ≡ false → kind ≡ kind_covers → l ≤ 200000
-covers_of kind l e k = ltb-false 200000 l (sym (ap (λ (c : ℕ). covers_long c l) k) ∙ e)
+covers_of kind l e k = grind (arith, nat_tests)
 
 pub good : (x : Ship) → (first (ship_lines x)).number ≡ 0 → Good x
 good x e =
     let p = all_pass (ship_lines x) (omega arith) e in
-    let w = or_false (reduced_short x.kind x.length.0) (covers_long x.kind x.length.0) p.1.0 in
+    let w = or_parts (reduced_short x.kind x.length.0) (covers_long x.kind x.length.0) p.1.0 in
     let r : (k : ℕ) → k < 13 → (get_or least k 0 ≤ get_or (fields_of x) k 0) × (get_or (fields_of x) k 0 ≤ get_or most k 0) =
     λ k h. in_range (fields_of x) k (omega (arith, ltb-false (field_out (fields_of x)) 13 p.0)) in
     record {

@@ -1,14 +1,15 @@
 -- 02 §1: what has become of 01's refusal 11, for every list of houses and every call that checks one.
 use Prim.Native.Nat.{ℕ, zero, suc, ◌+◌, ◌-◌, ◌≤◌, ◌<◌, min, max}
-use mathlib.Core.Bool.{Bool, true, false, ◌&&◌, and-eq-true_iff}
+use mathlib.Core.Bool.{Bool, true, false, ◌&&◌}
 use mathlib.Core.List.{List, [], ◌∷◌, ◌++◌}
 use mathlib.Core.Path.{◌≡◌, refl, sym}
 use native.Mathlib.Omega.{arith}
 use native.Mathlib.Decide.{dec_lt}
 use native.Mathlib.Numerals.{add-one}
-use borrow.Author.Tests.{ltb-true, ltb-false, leb-true, le-leb, eqb-true, ne_eqb}
+use borrow.Author.Tests.{ltb-true, ltb-false, eqb-true, ne_eqb}
 use lib.Dec.{eqb, ltb, leb}
 use lib.ListN.{length}
+use Rattle.std.proofs.lemmas.Bool.Decides.{nat_tests}
 use Rattle.whole.specs.Pick.{pick}
 use Rattle.whole.specs.Count.{count}
 use Rattle.whole.proofs.Count.{count_same, count_between}
@@ -60,38 +61,11 @@ pub record Split (l : ℕ) (hs : List House) (new old : Paper) : Type 0 where
   pub none : ¬ (new.number ≡ 11) → new.overlap ≡ 0
 
 -- ---- counting
-same_bool : (p q : Bool) → (p ≡ true → q ≡ true) → (q ≡ true → p ≡ true) → p ≡ q
-same_bool true q f g = sym (f refl)
-same_bool false true f g = g refl
-same_bool false false f g = refl
-
 module _ (g h : House) where
   -- in both: forward of both aft ends, abaft both fore ends
   in_both_lem : (j : ℕ) → in_both g h j ≡ (leb (max g.aft.0 h.aft.0) (0 + j) && leb (0 + j + 1) (min g.fore.0 h.fore.0))
   unfolding stands_over
-  in_both_lem j =
-      let a = g.aft.0 in
-      let f = g.fore.0 in
-      let b = h.aft.0 in
-      let e = h.fore.0 in
-      same_bool (in_both g h j) (leb (max a b) (0 + j) && leb (0 + j + 1) (min f e))
-      (λ t.
-      let p = (and-eq-true_iff (stands_over g j) (stands_over h j)).0 t in
-      let q = (and-eq-true_iff (leb a j) (leb (j + 1) f)).0 p.0 in
-      let r = (and-eq-true_iff (leb b j) (leb (j + 1) e)).0 p.1 in
-      let m = leb-true a j q.0 in
-      let n = leb-true (j + 1) f q.1 in
-      let u = leb-true b j r.0 in
-      let v = leb-true (j + 1) e r.1 in
-      (and-eq-true_iff (leb (max a b) (0 + j)) (leb (0 + j + 1) (min f e))).1 (le-leb (max a b) (0 + j) (omega arith), le-leb (0 + j + 1) (min f e) (omega arith)))
-      (λ t.
-      let p = (and-eq-true_iff (leb (max a b) (0 + j)) (leb (0 + j + 1) (min f e))).0 t in
-      let m = leb-true (max a b) (0 + j) p.0 in
-      let n = leb-true (0 + j + 1) (min f e) p.1 in
-      (and-eq-true_iff (stands_over g j) (stands_over h j)).1 (
-        (and-eq-true_iff (leb a j) (leb (j + 1) f)).1 (le-leb a j (omega arith), le-leb (j + 1) f (omega arith)),
-        (and-eq-true_iff (leb b j) (leb (j + 1) e)).1 (le-leb b j (omega arith), le-leb (j + 1) e (omega arith)),
-      ))
+  in_both_lem j = grind (arith, nat_tests)
 
   count_both : (n : ℕ) → h.fore.0 ≤ n → g.aft.0 ≤ h.aft.0 → overlap_between g h ≡ count (in_both g h) n
   count_both n end order =

@@ -1,13 +1,12 @@
 -- The type by which timber freeboards are worked (45(6)), and the timber flag.
 use Prim.Native.Nat.{ℕ, ◌≤◌, ◌<◌}
-use mathlib.Core.Bool.{Bool, true, false, true≢false, ◌||◌}
-use mathlib.Core.Path.{◌≡◌, refl, sym}
+use mathlib.Core.Bool.{Bool, true, false}
+use mathlib.Core.Path.{◌≡◌}
 use native.Mathlib.Omega.{arith}
-use lib.Dec.{eqb}
-use borrow.Author.Tests.{eqb-true}
+use Rattle.std.proofs.lemmas.Bool.Decides.{nat_tests}
 use Rattle.whole.proofs.Pick.{pick_false, by_cases}
 use Rattle.ship.specs.declared.Ship.{Ship}
-use Rattle.ship.specs.Kinds.{kind_b60, kind_b100, kind_covers, is_reduced, timber_kind}
+use Rattle.ship.specs.Kinds.{kind_covers, is_reduced, timber_kind}
 use Rattle.ship.specs.Good.{Good}
 
 -- it is a type, and has portable covers only where the ship's own has them
@@ -24,12 +23,7 @@ own_kind kind e = pick_false _ _ _ e
 
 -- a reduced ship that is accepted is longer than 100 m
 pub reduced_is_long : (x : Ship) → Good x → is_reduced x.kind ≡ true → 100000 < x.length.0
-reduced_is_long x g e = go (eqb x.kind kind_b60) (eqb x.kind kind_b100) refl refl e
-  where
-    go : (a b : Bool) → eqb x.kind kind_b60 ≡ a → eqb x.kind kind_b100 ≡ b → (a || b) ≡ true → 100000 < x.length.0
-    go true b p q t = g.reduced_long.0 (eqb-true x.kind kind_b60 p)
-    go false true p q t = g.reduced_long.1 (eqb-true x.kind kind_b100 q)
-    go false false p q t = absurd (true≢false (sym t))
+reduced_is_long x g e = grind (arith, nat_tests)
 
 -- ---- a ship that differs in the timber flag alone
 abbrev pub with_flag : Bool → Ship → Ship

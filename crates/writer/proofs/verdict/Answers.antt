@@ -5,7 +5,6 @@ use lib.Dec.{eqb, ltb}
 use Rattle.whole.specs.Pick.{pick}
 use Rattle.ship.specs.Refusals.{Paper, accepted, refused}
 use Rattle.ship.proofs.Lines.{beside_refusal}
-use Rattle.record.specs.Layout.{record_length}
 use Rattle.record.specs.Writing.{bytes_for}
 use Rattle.record.proofs.Written.{writing_judged}
 use Rattle.writer.proofs.verdict.Goals as goal
@@ -27,6 +26,6 @@ unfolding pick
 returns c =
     let x = c.args.x in
     let room = pick (ltb c.args.room (bytes_for x)) (refused 17 0) accepted in
-    let bytes : c.record_length.result ≡ bytes_for x = c.record_length.ensures.0 ∙ ap (λ (w : ℕ). record_length w x.n) c.lowest_for.ensures in
+    let bytes : c.record_length.result ≡ bytes_for x = cc in
     c.line.ensures ∙ ap (λ (n : ℕ). pick (ltb c.args.room n) (refused 17 0) accepted) bytes
     ∙ sym (writing_judged c.args.room x (omega arith) (sym c.timber_for_a.ensures ∙ c.if-timber_for_a.false) (omega arith) ∙ ap (behind room) (sym c.in_ok-of_ship.ensures))

@@ -6,9 +6,11 @@ use lib.ListN.{length, take, drop, replicate, get_or, length-append, replicate-a
 use lib.Pow.{pow_mono, pow-add, pow_pos, mod-pow-add, high}
 use lib.Arith.{digits_lt}
 use lib.Seq.{take-suc, get_or-drop, length-take-le}
-use native.Mathlib.Nat.{lt_of_lt_of_le, mod-lt, mod-one, mod-eq_of_lt, zero-add, add_assoc, mul_assoc, mul-add-div_right, mul-add-mod_self_right, add-mul}
+use native.Mathlib.Nat.{lt_of_lt_of_le, mod-lt, mod-one, mod-eq_of_lt, zero-add, add_assoc, mul_assoc, mul-add-div_right, mul-add-mod_self_right, add-mul, pow-suc, div-one, suc-add}
 use native.Mathlib.Omega.{arith}
 use native.Mathlib.Numerals.{add-one}
+use Rattle.std.specs.Int.{bytes_high_first}
+use Rattle.std.proofs.lemmas.List.{take_rest}
 use Rattle.bits.specs.Fields.{total, pack, piece, unpack, Fit, number, bytes, Bytes}
 
 pub total_eights : (k : ℕ) → total (replicate k 8) ≡ 8 * k
@@ -123,16 +125,28 @@ fit_each [] [] f i = omega arith
 fit_each (w ∷ ws) (v ∷ vs) f zero = f.0
 fit_each (w ∷ ws) (v ∷ vs) f (suc i) = fit_each ws vs f.1 i
 
--- the j-th of k bytes
-pub get_d_bytes : (k n j : ℕ) → j < k → get_or (bytes k n) j 0 ≡ piece n (8 * k - 8 * (j + 1)) 8
-unfolding pack unpack piece number bytes
-get_d_bytes zero n j h = absurd (omega arith)
-get_d_bytes (suc k) n zero h =
-    let e : total (replicate k 8) ≡ 8 * suc k - 8 * (0 + 1) = omega (arith, total_eights k) in
-    rw e refl
-get_d_bytes (suc k) n (suc j) h =
-    let e : 8 * k - 8 * (j + 1) ≡ 8 * suc k - 8 * (suc j + 1) = omega arith in
-    rw (← e) (get_d_bytes k n j (omega arith))
+-- ---- as the library has them: the last k of all eight
+pow_eights : (k : ℕ) → 256 ^ k ≡ 2 ^ (8 * k)
+pow_eights zero = refl
+pow_eights (suc k) = let e : 8 * suc k ≡ 8 * k + 8 = omega arith in rw (e, pow-add 2 (8 * k) 8, pow-suc 256 k, pow_eights k) refl
+
+high_first : (k n : ℕ) → bytes_high_first k n ≡ bytes k n
+unfolding unpack piece bytes
+high_first zero n = refl
+high_first (suc zero) n = rw div-one refl
+high_first (suc (suc k)) n =
+    let e : total (replicate (suc k) 8) ≡ 8 * suc k = total_eights (suc k) in
+    ap₂ ◌∷◌ (rw (e, pow_eights (suc k)) refl) (high_first (suc k) n)
+
+last_of : (m k n : ℕ) → drop m (bytes_high_first (m + k) n) ≡ bytes_high_first k n
+last_of zero k n = rw zero-add refl
+last_of (suc m) k n = rw suc-add (last_of m k n)
+
+pub last_bytes : (k n : ℕ) → k ≤ 8 → take (8 - (8 - k)) (drop (8 - k) (bytes_high_first 8 n)) ≡ bytes k n
+last_bytes k n h =
+    let e : 8 ≡ 8 - k + k = omega arith in
+    take_rest (bytes_high_first 8 n) (8 - k)
+    ∙ ap (λ (i : ℕ). drop (8 - k) (bytes_high_first i n)) e ∙ last_of (8 - k) k n ∙ high_first k n
 
 pub bytes_take : (k : ℕ) (s : List ℕ) → Bytes s → Bytes (take k s)
 bytes_take zero s b i = omega arith

@@ -4,38 +4,26 @@
 ghost use Rattle.std.specs.Prelude.{◌≡◌, ◌-◌, ◌≤◌, ◌<◌, ◌++◌, length};
 ghost use Rattle.bits.specs.Fields.{number, bytes};
 
-fn wide(x: u8) -> u64
-    ensures { (result ≡ x) × (result < 256) }
-{
-    x as u64
-}
-
 // The number that at most eight bytes are.
 pub fn word(s: &[u8]) -> u64
     requires { length s.now ≤ 8 }
     ensures { result ≡ number s.now }
 {
     let mut acc: u64 = 0;
-    let mut i = 0;
-    while i < s.len() {
-        acc = acc * 256 + wide(s[i]);
-        i += 1;
+    for b in s {
+        acc = acc * 256 + u64::from(*b);
     }
     acc
 }
 
 // Writes the last bytes of a number over the whole of `out`, at most eight.
+#[tactic(auto, using(crate::proofs::Radix::last_bytes))]
 pub fn put_word(out: &mut [u8], n: u64)
     requires { length out.old ≤ 8 }
     ensures { out.new ≡ bytes (length out.old) n }
 {
-    let mut after = 8 * out.len();
-    let mut j = 0;
-    while j < out.len() {
-        after -= 8;
-        out[j] = ((n >> after) % 256) as u8;
-        j += 1;
-    }
+    let all = n.to_be_bytes();
+    out.copy_from_slice(&all[all.len() - out.len()..]);
 }
 
 // Writes two words over the whole of `out`, the second from byte `at` on.

@@ -1,6 +1,6 @@
 -- A flat ship that is accepted, as a ship of the steps and flat again, is the flat ship with its flags at 0 or 1 and its places beyond n at zero; the zero ship is all zeros.
 use Prim.Native.Nat.{ℕ, zero, suc, ◌+◌, ◌-◌, ◌<◌}
-use mathlib.Core.List.{List, [], ◌∷◌, ◌++◌, map}
+use mathlib.Core.List.{List, [], ◌∷◌, ◌++◌, map, map-append}
 use mathlib.Core.Path.{◌≡◌, refl, ap, ap₂, ◌∙◌}
 use native.Mathlib.Omega.{arith}
 use lib.IntN.{ℤ}
@@ -13,10 +13,6 @@ use Rattle.flat.specs.declared.FlatHouse.{FlatHouse}
 use Rattle.flat.specs.declared.FlatShip.{FlatShip}
 use Rattle.flat.specs.Flat.{sheer_mm, house_of, ship_of, ordinate_from, house_from, ship_from, flag_of, flat_zero_house, flat_clean_house, flat_clean, flat_zero}
 use Rattle.flat.proofs.Kept.{house_kept, ordinate_kept}
-
-map_both : {A B : Type 0} (f : A → B) (xs ys : List A) → map f (xs ++ ys) ≡ map f xs ++ map f ys
-map_both f [] ys = refl
-map_both f (x ∷ xs) ys = ap (λ l. f x ∷ l) (map_both f xs ys)
 
 map_replicate : {A B : Type 0} (f : A → B) (n : ℕ) (a : A) → map f (replicate n a) ≡ replicate n (f a)
 map_replicate f zero a = refl
@@ -61,7 +57,7 @@ ship_cleaned f six g =
     let gs = take f.n (map house_from f.houses) in
     let m = 8 - f.n in
     let hs : map house_of (gs ++ replicate m no_house) ≡ map flat_clean_house (take f.n f.houses) ++ replicate m flat_zero_house =
-    map_both house_of gs (replicate m no_house)
+    map-append house_of gs (replicate m no_house)
     ∙ ap₂ (λ (a b : List FlatHouse). a ++ b) (houses_cleaned f.length f.n f.houses g.houses.each) (map_replicate house_of m no_house ∙ ap (replicate m) no_house_zero) in
     λ i. record {
       kind = f.kind;

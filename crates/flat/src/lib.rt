@@ -40,7 +40,8 @@ pub struct FlatShip {
     pub houses: [FlatHouse; 8],
 }
 
-// ---- from the steps' ship
+// ---- from the steps' ship: functions, since they ask that it is near, which a From has no place for
+#[tactic(auto, unfolding(crate::specs::Flat::house_of))]
 fn of_house(h: House) -> FlatHouse
     requires { Near h }
     ensures { result ≡ house_of h }
@@ -60,53 +61,13 @@ fn of_house(h: House) -> FlatHouse
     }
 }
 
-fn of_houses(hs: [House; 8]) -> [FlatHouse; 8]
-    requires { NearHouses hs }
-    ensures { result ≡ map house_of hs }
-{
-    let none = FlatHouse {
-        enclosed: 0,
-        quarterdeck: 0,
-        aft: 0,
-        fore: 0,
-        height: 0,
-        breadth: 0,
-        beam: 0,
-    };
-    let mut flat = [none; 8];
-    let mut k = 0;
-    while k < 8 {
-        let h = hs[k];
-        let house = of_house(h);
-        flat[k] = house;
-        k += 1;
-    }
-    flat
-}
-
-fn of_sheer(s: [Ordinate; 6]) -> [i64; 6]
-    requires { NearSheer s }
-    ensures { result ≡ map sheer_mm s }
-{
-    let mut mm = [0i64; 6];
-    let mut k = 0;
-    while k < 6 {
-        let o = s[k];
-        mm[k] = units::mm_of_ordinate(o);
-        k += 1;
-    }
-    mm
-}
-
 pub fn of_ship(x: Ship) -> FlatShip
     requires { NearSheer x.sheer × NearHouses x.houses }
     ensures { result ≡ ship_of x }
 {
-    let s = x.sheer;
-    let hs = x.houses;
     let timber = record::bit_of(x.timber);
-    let sheer = of_sheer(s);
-    let houses = of_houses(hs);
+    let sheer = x.sheer.map(units::mm_of_ordinate);
+    let houses = x.houses.map(of_house);
     FlatShip {
         kind: x.kind,
         n: x.n as u64,
@@ -123,71 +84,45 @@ pub fn of_ship(x: Ship) -> FlatShip
     }
 }
 
-// ---- to the steps' ship
-fn to_house(h: FlatHouse) -> House
-    ensures { result ≡ house_from h }
-{
-    let aft = units::station_of_mm(h.aft);
-    let fore = units::station_of_mm(h.fore);
-    House {
-        enclosed: h.enclosed != 0,
-        quarterdeck: h.quarterdeck != 0,
-        aft,
-        fore,
-        height: Span(h.height),
-        breadth: Span(h.breadth),
-        beam: Span(h.beam),
+// ---- to the steps' ship, from any numbers
+impl From<FlatHouse> for House {
+    ghost from_gives = { λ flat h. h ≡ house_from flat };
+
+    #[tactic(auto, unfolding(crate::specs::Flat::house_from))]
+    fn from(h: FlatHouse) -> House {
+        let aft = units::station_of_mm(h.aft);
+        let fore = units::station_of_mm(h.fore);
+        House {
+            enclosed: h.enclosed != 0,
+            quarterdeck: h.quarterdeck != 0,
+            aft,
+            fore,
+            height: Span(h.height),
+            breadth: Span(h.breadth),
+            beam: Span(h.beam),
+        }
     }
 }
 
-fn to_houses(flat: [FlatHouse; 8]) -> [House; 8]
-    ensures { result ≡ map house_from flat }
-{
-    let none = ship::no_house();
-    let mut hs = [none; 8];
-    let mut k = 0;
-    while k < 8 {
-        let h = flat[k];
-        let house = to_house(h);
-        hs[k] = house;
-        k += 1;
-    }
-    hs
-}
+impl From<FlatShip> for Ship {
+    ghost from_gives = { λ flat x. x ≡ ship_from flat };
 
-fn to_sheer(mm: [i64; 6]) -> [Ordinate; 6]
-    ensures { result ≡ map ordinate_from mm }
-{
-    let level = Ordinate(LIFT);
-    let mut s = [level; 6];
-    let mut k = 0;
-    while k < 6 {
-        let o = units::ordinate_of_mm(mm[k]);
-        s[k] = o;
-        k += 1;
-    }
-    s
-}
-
-pub fn to_ship(x: FlatShip) -> Ship
-    ensures { result ≡ ship_from x }
-{
-    let mm = x.sheer;
-    let flat = x.houses;
-    let sheer = to_sheer(mm);
-    let houses = to_houses(flat);
-    Ship {
-        kind: x.kind,
-        n: x.n as usize,
-        timber: x.timber != 0,
-        length: Span(x.length),
-        depth: Span(x.depth),
-        moulded: Span(x.moulded),
-        block: x.block,
-        waterplane: x.waterplane,
-        sheer,
-        displacement: x.displacement,
-        immersion: x.immersion,
-        houses,
+    fn from(x: FlatShip) -> Ship {
+        let sheer = x.sheer.map(units::ordinate_of_mm);
+        let houses = x.houses.map(House::from);
+        Ship {
+            kind: x.kind,
+            n: x.n as usize,
+            timber: x.timber != 0,
+            length: Span(x.length),
+            depth: Span(x.depth),
+            moulded: Span(x.moulded),
+            block: x.block,
+            waterplane: x.waterplane,
+            sheer,
+            displacement: x.displacement,
+            immersion: x.immersion,
+            houses,
+        }
     }
 }

@@ -1,5 +1,5 @@
 -- The head's bytes are those of four words, one after the other.
-use Prim.Native.Nat.{ℕ, ◌+◌, ◌-◌, ◌*◌, ◌/◌, ◌%◌, ◌^◌, ◌≤◌, ◌<◌}
+use Prim.Native.Nat.{ℕ, ◌+◌, ◌-◌, ◌*◌, ◌/◌, ◌%◌, ◌^◌, ◌<◌}
 use mathlib.Core.List.{List, [], ◌∷◌, ◌++◌}
 use mathlib.Core.Path.{◌≡◌, refl, sym, ap, ap₂, subst, ◌∙◌}
 use lib.ListN.{length, take, drop, length-append, length-drop}
@@ -7,7 +7,6 @@ use lib.Seq.{length-take-le}
 use native.Mathlib.Omega.{arith}
 use lib.Dec.{eqb, leb}
 use Rattle.whole.proofs.Pick.{by_cases}
-use Rattle.whole.proofs.Divide.{mul_most}
 use Rattle.bits.specs.Fields.{total, pack, bytes, Fit}
 use Rattle.bits.proofs.Radix.{pack_append, pack_lt, length_bytes}
 use Rattle.bits.proofs.Fill.{two_parts}
@@ -56,10 +55,6 @@ opening_lt h f =
     let e : total (opening_widths h.version) ≡ 16 = omega (arith, eight_bits h.version) in
     subst (λ (k : ℕ). pack (opening_widths h.version) (take 5 (head_fields h)) < 2 ^ k) e
     (pack_lt (opening_widths h.version) (take 5 (head_fields h)) (f.0, (f.1.0, (f.1.1.0, (f.1.1.1.0, (f.1.1.1.1.0, tt))))))
-
--- none of its steps overflows
-pub opening_small : (v k kinds : ℕ) → v < 16 → k < kinds → kinds ≤ 8 → v * kinds + k ≤ 127
-opening_small v k kinds p q r = omega (arith, mul_most v kinds 15 8 (omega arith) r)
 
 -- and what follows it in the first word
 tail_code : (a b c : ℕ) → pack (20 ∷ 16 ∷ 12 ∷ []) (a ∷ b ∷ c ∷ []) ≡ (a * 65536 + b) * 4096 + c

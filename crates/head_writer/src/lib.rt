@@ -9,6 +9,7 @@ ghost use Rattle.record.specs.Words.{first_widths, fullness_widths, four_widths,
 use record::{Head, range};
 
 // Version, type, houses n, timber flag and spare, in the bits that the version has for each: 16 together.
+#[tactic(auto, using(crate::proofs::HeadOut::opening_code, crate::proofs::HeadOut::opening_lt))]
 fn opening(h: Head) -> u64
     requires { Fit (head_widths h.version) (head_fields h) }
     ensures { (result ≡ pack (opening_widths h.version) (take 5 (head_fields h))) × (result < 65536) }
@@ -20,6 +21,7 @@ fn opening(h: Head) -> u64
 }
 
 // Then L, D and the first bits of M.
+#[tactic(auto, using(crate::proofs::HeadOut::first_code))]
 fn first_word(h: Head) -> u64
     requires { Fit (head_widths h.version) (head_fields h) }
     ensures { result ≡ pack (first_widths h.version) (first_fields h) }
@@ -31,6 +33,7 @@ fn first_word(h: Head) -> u64
 }
 
 // The last bits of M, Cb and Cwf.
+#[tactic(auto, unfolding(bits::specs::Fields::pack))]
 fn fullness_word(h: Head) -> u64
     requires { Fit (head_widths h.version) (head_fields h) }
     ensures { result ≡ pack fullness_widths (fullness_fields h) }
@@ -40,6 +43,7 @@ fn fullness_word(h: Head) -> u64
 }
 
 // The first four ordinates of sheer.
+#[tactic(auto, unfolding(bits::specs::Fields::pack))]
 fn four_word(h: Head) -> u64
     ensures { result ≡ pack four_widths (four_fields h) }
 {
@@ -51,6 +55,7 @@ fn four_word(h: Head) -> u64
 }
 
 // The last two, displacement and immersion.
+#[tactic(auto, unfolding(bits::specs::Fields::pack))]
 fn last_word(h: Head) -> u64
     requires { Fit (head_widths h.version) (head_fields h) }
     ensures { result ≡ pack last_widths (last_fields h) }

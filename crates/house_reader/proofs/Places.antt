@@ -1,27 +1,28 @@
 -- One house more is read: its place is filled, and its spare bits are added.
 use Prim.Native.Nat.{ℕ, zero, suc, ◌+◌, ◌-◌, ◌*◌, ◌%◌, ◌≤◌, ◌<◌}
 use mathlib.Core.Bool.{Bool, true, false}
-use mathlib.Core.List.{List, [], ◌∷◌, ◌++◌}
+use mathlib.Core.List.{List, [], ◌∷◌, ◌++◌, append-nil}
 use mathlib.Core.Path.{◌≡◌, refl, sym, ap, ap₂, subst, ◌∙◌}
 use lib.Dec.{leb}
 use lib.ListN.{length, take, drop, get_or, set, replicate, length-drop}
 use lib.Seq.{set_at, append_snoc, drop-drop}
-use native.Mathlib.Nat.{mul-zero}
+use native.Mathlib.Nat.{mul-zero, sub-zero}
 use native.Mathlib.Numerals.{add-one}
 use native.Mathlib.Omega.{arith}
+use Rattle.std.proofs.lemmas.List.{take-replicate, drop-replicate}
 use Rattle.whole.specs.Pick.{pick}
 use Rattle.bits.specs.Fields.{number, pack, unpack, piece, Bytes}
 use Rattle.bits.proofs.Joined.{unpack_parts}
 use Rattle.bits.proofs.Radix.{bytes_drop}
 use Rattle.ship.specs.declared.House.{House}
 use Rattle.ship.specs.Vessel.{no_house}
-use Rattle.record.specs.Layout.{breadth_bits, house_widths, house_size, house_of, house_in, spare_in, house_at, houses_in}
+use Rattle.record.specs.Layout.{breadth_bits, house_widths, house_size, house_of, house_in, spare_in, house_at, houses_in, places_in}
 use Rattle.record.specs.Reading.{spares_in}
 use Rattle.record.specs.Words.{eight_widths, breadth_widths}
 use Rattle.record.proofs.Parts.{length_houses_in, size_within, house_total}
 
 -- a house of zero bits is the empty house
-pub zero_bits : house_of (unpack eight_widths 0 ++ unpack breadth_widths 0) ≡ no_house
+zero_bits : house_of (unpack eight_widths 0 ++ unpack breadth_widths 0) ≡ no_house
 unfolding unpack piece
 zero_bits = refl
 
@@ -92,13 +93,17 @@ module _ (version : ℕ) where
       let e : size + size * n ≡ size * suc n = omega arith in
       ap (λ (l : List House). house_in version (take size t) ∷ l) (rw (drop-drop (size * n) size t, e) at (houses_in_snoc n (drop size t)))
 
+  -- none of n places is filled, of all eight that were made
+  pub places_none : (n : ℕ) {h : House} → n ≤ 8 → h ≡ house_of (unpack eight_widths 0 ++ unpack breadth_widths 0) → take n (replicate 8 h) ≡ replicate (n - 0) no_house
+  places_none n few e = rw (e ∙ zero_bits, sub-zero) (take-replicate n 8 no_house few)
+
   -- one place more is filled
-  pub places_more : (s : List ℕ) (k : ℕ) → k < 8
-      → set (houses_in version k (drop 27 s) ++ replicate (8 - k) no_house) k (house_in version (house_at version s k))
-      ≡ houses_in version (k + 1) (drop 27 s) ++ replicate (8 - (k + 1)) no_house
-  places_more s k h =
-      let m : ℕ = 8 - (k + 1) in
-      let e : 8 - k ≡ suc m = omega arith in
+  pub places_more : (s : List ℕ) (n k : ℕ) → k < n
+      → set (houses_in version k (drop 27 s) ++ replicate (n - k) no_house) k (house_in version (house_at version s k))
+      ≡ houses_in version (k + 1) (drop 27 s) ++ replicate (n - (k + 1)) no_house
+  places_more s n k h =
+      let m : ℕ = n - (k + 1) in
+      let e : n - k ≡ suc m = omega arith in
       let p : List House = houses_in version k (drop 27 s) in
       let a : House = house_in version (house_at version s k) in
       let q : houses_in version (k + 1) (drop 27 s) ≡ p ++ (a ∷ []) =
@@ -106,6 +111,14 @@ module _ (version : ℕ) where
       ∙ ap (λ (t : List ℕ). p ++ (house_in version (take size t) ∷ [])) (drop-drop (size * k) 27 s) in
       rw (e, set_at p no_house (replicate m no_house) a k (length_houses_in version k (drop 27 s)))
       (sym (append_snoc p a (replicate m no_house)) ∙ ap (λ (l : List House). l ++ replicate m no_house) (sym q))
+
+  -- all of them are, and those beyond n are as they were made
+  pub places_all : (s : List ℕ) (n k : ℕ) {h : House} {ps : List House} → n ≤ 8 → k ≡ n → h ≡ house_of (unpack eight_widths 0 ++ unpack breadth_widths 0)
+      → ps ≡ houses_in version k (drop 27 s) ++ replicate (n - k) no_house → ps ++ drop n (replicate 8 h) ≡ places_in version n s
+  unfolding places_in
+  places_all s n k few e z p =
+      let none : n - n ≡ 0 = omega arith in
+      rw (p, z ∙ zero_bits, e, none, append-nil) (ap (λ (l : List House). houses_in version n (drop 27 s) ++ l) (drop-replicate n 8 no_house))
 
   pub spares_more : (s : List ℕ) (k : ℕ) → spares_in version s k + spare_in version (house_at version s k) ≡ spares_in version s (k + 1)
   unfolding spares_in

@@ -12,6 +12,7 @@ use ship::House;
 use units::Span;
 
 // The house whose eight bytes are a word, and its breadths another.
+#[tactic(auto, using(record::proofs::Complement::turn_low), unfolding(bits::specs::Fields::unpack, bits::specs::Fields::piece))]
 fn house_of(word: u64, breadths: u64) -> House
     ensures { result ≡ house_of (unpack eight_widths word ++ unpack breadth_widths breadths) }
 {
@@ -44,17 +45,13 @@ pub fn houses_in(s: &[u8], version: u64, n: usize) -> Houses
     let none = house_of(0, 0);
     let mut places = [none; 8];
     let mut spare = 0;
-    let mut k = 0;
-    while k < n {
+    for (k, place) in places[..n].iter_mut().enumerate() {
         let a = HEAD_BYTES + size * k;
         let b = a + HOUSE_WORD;
-        let e = a + size;
         let word = bits::word(&s[a..b]);
-        let breadths = bits::word(&s[b..e]); // 0 in versions 1 and 2, where it has no byte
-        let h = house_of(word, breadths);
-        places[k] = h;
+        let breadths = bits::word(&s[b..a + size]); // 0 in versions 1 and 2, where it has no byte
+        *place = house_of(word, breadths);
         spare += word % range::HOUSE_SPARE;
-        k += 1;
     }
     Houses { places, spare }
 }

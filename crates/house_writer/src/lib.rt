@@ -11,6 +11,7 @@ use ship::House;
 
 // Writes a house over its bytes, as two words: in each a field shifts those before it up by its range. The spare bits are 0. The breadths have no byte in versions
 // 1 and 2, and nothing is written of them.
+#[tactic(auto, unfolding(bits::specs::Fields::pack))]
 fn put_house(out: &mut [u8], h: House)
     requires { (8 ≤ length out.old) × (length out.old ≤ 12) × (h.height.0 < 8192) × (h.breadth.0 < 65536) × (h.beam.0 < 65536) }
     ensures { out.new ≡ bytes 8 (pack eight_widths (eight_fields h)) ++ bytes (length out.old - 8) (pack breadth_widths (breadth_fields h)) }
@@ -31,12 +32,8 @@ pub fn put_houses(buf: &mut [u8], version: u64, houses: [House; 8], n: usize)
     ensures { buf.new ≡ (take 27 buf.old ++ houses_bytes version (take n houses)) ++ drop (record_length version n) buf.old }
 {
     let size = record::house_size(version);
-    let mut k = 0;
-    while k < n {
+    for (k, h) in houses[..n].iter().enumerate() {
         let a = HEAD_BYTES + size * k;
-        let e = a + size;
-        let h = houses[k];
-        put_house(&mut buf[a..e], h);
-        k += 1;
+        put_house(&mut buf[a..a + size], *h);
     }
 }

@@ -58,6 +58,7 @@ pub struct Head {
 
 // ---- versions
 // One number in version 1, and another in every later one.
+#[tactic(auto, unfolding(whole::specs::Pick::pick))]
 fn by_version(version: u64, first: u64, later: u64) -> u64
     ensures { result ≡ pick (eqb version 1) first later }
 {
@@ -69,6 +70,7 @@ fn by_version(version: u64, first: u64, later: u64) -> u64
 }
 
 // The last of the types that a version holds.
+#[tactic(auto, unfolding(crate::specs::Layout::last_type_in))]
 pub fn last_type_in(version: u64) -> u64
     ensures { result ≡ last_type_in version }
 {
@@ -76,6 +78,7 @@ pub fn last_type_in(version: u64) -> u64
 }
 
 // How many bytes a house has in a version.
+#[tactic(auto, unfolding(crate::specs::Layout::house_size, whole::specs::Pick::pick))]
 pub fn house_size(version: u64) -> usize
     ensures { (result ≡ house_size version) × (8 ≤ result) × (result ≤ 12) }
 {
@@ -94,23 +97,15 @@ pub fn record_length(version: u64, n: usize) -> usize
     HEAD_BYTES + house_size(version) * n
 }
 
-// Whether some of the first `n` houses have breadths.
-fn any_set_in(houses: [House; 8], n: usize) -> bool
-    requires { n ≤ 8 }
-    ensures { result ≡ any_set_in (take n houses) }
+// Whether some house has breadths.
+fn any_set_in(houses: &[House]) -> bool
+    ensures { result ≡ any_set_in houses.now }
 {
-    let mut k = 0;
-    while k < n {
-        let h = houses[k];
-        if !ship::full_breadth(h) {
-            return true;
-        }
-        k += 1;
-    }
-    false
+    houses.iter().any(|h| !ship::full_breadth(*h))
 }
 
 // The lowest version that holds a ship.
+#[tactic(auto, unfolding(crate::specs::Layout::lowest_for, whole::specs::Pick::pick))]
 pub fn lowest_for(x: Ship) -> u64
     requires { x.n ≤ 8 }
     ensures { result ≡ lowest_for x }
@@ -118,8 +113,7 @@ pub fn lowest_for(x: Ship) -> u64
     if x.timber {
         return FOURTH_VERSION;
     }
-    let houses = x.houses;
-    if any_set_in(houses, x.n) {
+    if any_set_in(&x.houses[..x.n]) {
         return THIRD_VERSION;
     }
     if x.kind > last_type_in(FIRST_VERSION) {
@@ -132,7 +126,7 @@ pub fn lowest_for(x: Ship) -> u64
 pub fn bit_of(b: bool) -> u64
     ensures { (result ≡ bit b) × (result < 2) }
 {
-    if b { 1 } else { 0 }
+    u64::from(b)
 }
 
 // ---- signed fields
@@ -145,6 +139,8 @@ fn turned(half: u64, u: u64) -> u64
     let range = 2 * half;
     (u % range + half) % range
 }
+
+// Stations and ordinates share `turned`. One function for both types would need a trait with two impls, which is longer than these four lines of code.
 
 // The station of a field of 21 bits.
 pub fn station_in(field: u64) -> Station

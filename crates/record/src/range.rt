@@ -39,18 +39,21 @@ pub const HOUSE_SPARE: u64 = 1 << width::HOUSE_SPARE;
 pub const BREADTH: u64 = 1 << width::BREADTH;
 
 // ---- by the version
+#[tactic(auto, using(crate::proofs::Shifted::one_shifted))]
 pub fn kind(version: u64) -> u64
     ensures { (result ≡ 2 ^ kind_bits version) × (0 < result) × (result ≤ 8) }
 {
     1 << width::kind(version)
 }
 
+#[tactic(auto, using(crate::proofs::Shifted::one_shifted))]
 pub fn timber(version: u64) -> u64
     ensures { (result ≡ 2 ^ timber_bits version) × (0 < result) × (result ≤ 2) }
 {
     1 << width::timber(version)
 }
 
+#[tactic(auto, using(crate::proofs::Shifted::one_shifted))]
 pub fn spare(version: u64) -> u64
     ensures { (result ≡ 2 ^ spare_bits version) × (0 < result) × (result ≤ 64) }
 {

@@ -52,18 +52,21 @@ pub const HOUSE_SPARE: u64 = 7;
 pub const BREADTH: u64 = 16;
 
 // ---- by the version
+#[tactic(auto, using(crate::proofs::Parts::eight_bits), unfolding(crate::specs::Layout::kind_bits))]
 pub fn kind(version: u64) -> u64
     ensures { (result ≡ kind_bits version) × (result ≤ 3) }
 {
     by_version(version, KIND_IN_1, KIND)
 }
 
+#[tactic(auto, unfolding(crate::specs::Layout::timber_bits, whole::specs::Pick::pick))]
 pub fn timber(version: u64) -> u64
     ensures { (result ≡ timber_bits version) × (result ≤ 1) }
 {
     if version <= THIRD_VERSION { 0 } else { TIMBER }
 }
 
+#[tactic(auto, using(crate::proofs::Parts::eight_bits), unfolding(crate::specs::Layout::spare_bits))]
 pub fn spare(version: u64) -> u64
     ensures { (result ≡ spare_bits version) × (result ≤ 6) }
 {

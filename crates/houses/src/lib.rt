@@ -15,6 +15,7 @@ use units::Span;
 use whole::{less, lesser};
 
 // 34: a house's length, of which only the part between 0 and L counts.
+#[tactic(auto, unfolding(crate::specs::Length::part_of, whole::specs::Pick::pick))]
 pub fn part(l: Span, h: House) -> Span
     requires { l.0 ≤ 365000 }
     ensures result_value { result.0 ≡ part_of l.0 h }
@@ -22,8 +23,8 @@ pub fn part(l: Span, h: House) -> Span
 {
     let ap = units::forward_of_ap(Span(0));
     let fp = units::forward_of_ap(l);
-    let aft = units::foremost(h.aft, ap);
-    let fore = units::aftermost(h.fore, fp);
+    let aft = h.aft.max(ap);
+    let fore = h.fore.min(fp);
     if h.enclosed {
         return units::between(aft, fore);
     }
@@ -48,12 +49,13 @@ pub fn reach_of(l: Span, h: House) -> u64
 }
 
 // Whether a house is the forecastle: enclosed, and its fore end at or beyond L.
+#[tactic(auto, unfolding(crate::specs::Forecastle::is_forecastle))]
 pub fn is_forecastle(l: Span, h: House) -> bool
     requires { l.0 ≤ 365000 }
     ensures { result ≡ is_forecastle l.0 h }
 {
     let fp = units::forward_of_ap(l);
-    h.enclosed & units::is_at_or_abaft(fp, h.fore)
+    h.enclosed && fp <= h.fore
 }
 
 // 31: whether a house, enclosed, covers the whole of 0.2 L to 0.8 L.

@@ -37,8 +37,8 @@ pub fn summer(floor: u64, added: Freeboard, taken: Freeboard, bow: Freeboard) ->
     ensures upper_bound { result ≤ 2 ^ 50 }
 {
     let corrected = units::difference(added, taken);
-    let freeboard = units::greater(corrected, bow);
-    whole::greater(floor, units::mm_up(freeboard))
+    let freeboard = corrected.max(bow);
+    floor.max(units::mm_up(freeboard))
 }
 
 // T, from the summer mark and the summer draught d.

@@ -13,7 +13,7 @@ use units::Span;
 fn no_room(x: Ship) -> bool
     ensures { result ≡ no_room x }
 {
-    (0 < x.n && units::is_at_or_abaft(x.houses[0].aft, units::forward_of_ap(Span(0)))) || x.n == 8
+    (0 < x.n && x.houses[0].aft <= units::forward_of_ap(Span(0))) || x.n == 8
 }
 
 // The question on a ship that the reader accepts: refusals 14 to 16.

@@ -1,24 +1,27 @@
-// The units that regulation 28 keeps apart, a type for each: none can be added to another. One becomes another only in a function of this file, or in a
-// regulation's formula, as where lengths give a freeboard. A plain number gets its unit where it comes in: from a record, from C, from who asks.
+// The units that regulation 28 keeps apart, a type for each: none can be added to another or compared with it, and the values of one are ordered as numbers.
+// One becomes another only in a function of this file, or in a regulation's formula, as where lengths give a freeboard. A plain number gets its unit where it
+// comes in: from a record, from C, from who asks. A conversion is a function and no `From`: its name says what the plain number counts, and most have a
+// `requires`, which a `From` can't have.
 #![tactic(auto)]
 
-ghost use Rattle.std.specs.Prelude.{◌≡◌, ◌+◌, ◌-◌, ◌*◌, ◌/◌, ◌^◌, ◌≤◌, ◌<◌, min, max, leb, ltb};
+ghost use Rattle.std.specs.Prelude.{◌≡◌, ◌+◌, ◌-◌, ◌*◌, ◌/◌, ◌^◌, ◌≤◌, ◌<◌, leb};
 ghost use Rattle.whole.specs.Divide.{ceil_div};
 ghost use Rattle.units.specs.Datum.{datum, lift, station_of, mm_of, station_at, sheer_of, ordinate_at, counted_from};
 
-// A place along the ship: millimetres forward of the after perpendicular (AP), negative abaft it, with 2^20 added so that none is below zero.
-#[derive(Clone, Copy)]
+// A place along the ship: millimetres forward of the after perpendicular (AP), negative abaft it, with 2^20 added so that none is below zero. The lesser
+// of two lies abaft the other.
+#[derive(Clone, Copy, PartialEq, Eq, PartialOrd, Ord)]
 pub struct Station(pub u64);
 
 // The station of the after perpendicular: 0 mm.
 pub const AP: u64 = 1048576;
 
 // A length or a height, in millimetres.
-#[derive(Clone, Copy)]
+#[derive(Clone, Copy, PartialEq, Eq, PartialOrd, Ord)]
 pub struct Span(pub u64);
 
 // An effective length, in whole micrometres.
-#[derive(Clone, Copy)]
+#[derive(Clone, Copy, PartialEq, Eq, PartialOrd, Ord)]
 pub struct Effective(pub u64);
 
 // An effective length before it is rounded, a fraction: `top` / `bottom` micrometres.
@@ -36,26 +39,28 @@ pub struct Ratio {
 }
 
 // A freeboard, in micrometres.
-#[derive(Clone, Copy)]
+#[derive(Clone, Copy, PartialEq, Eq, PartialOrd, Ord)]
 pub struct Freeboard(pub u64);
 
 // An ordinate of sheer: its signed millimetres plus 8192, so that none is below zero.
-#[derive(Clone, Copy)]
+#[derive(Clone, Copy, PartialEq, Eq, PartialOrd, Ord)]
 pub struct Ordinate(pub u64);
 
 // The ordinate of no sheer: 0 mm.
 pub const LIFT: u64 = 8192;
 
 // The number that stands for so many signed millimetres, if `zero` stands for 0 mm; what would be below 0 is 0.
+#[tactic(auto, unfolding(crate::specs::Datum::counted_from, whole::specs::Pick::pick))]
 fn counted_from(zero: u64, mm: i64) -> u64
     requires { zero ≤ datum }
     ensures { result ≡ counted_from zero mm }
 {
-    let size = whole::size(mm);
-    if whole::below_zero(mm) {
-        return whole::less(zero, size);
+    let size = mm.unsigned_abs();
+    if mm < 0 {
+        zero.saturating_sub(size)
+    } else {
+        zero + size
     }
-    zero + size
 }
 
 // ---- stations
@@ -64,47 +69,14 @@ pub fn forward_of_ap(l: Span) -> Station
     requires { l.0 < datum }
     ensures { result.0 ≡ station_of l.0 }
 {
-    let mm = l.0;
-    Station(AP + mm)
-}
-
-// Whether the first of two stations lies abaft the second.
-pub fn is_abaft(a: Station, b: Station) -> bool
-    ensures { result ≡ ltb a.0 b.0 }
-{
-    let m = a.0;
-    let n = b.0;
-    m < n
-}
-
-// Whether it lies abaft the second or at it.
-pub fn is_at_or_abaft(a: Station, b: Station) -> bool
-    ensures { result ≡ leb a.0 b.0 }
-{
-    let m = a.0;
-    let n = b.0;
-    m <= n
-}
-
-// The aftermost of two stations.
-pub fn aftermost(a: Station, b: Station) -> Station
-    ensures { result.0 ≡ min a.0 b.0 }
-{
-    Station(whole::lesser(a.0, b.0))
-}
-
-// The foremost of two stations.
-pub fn foremost(a: Station, b: Station) -> Station
-    ensures { result.0 ≡ max a.0 b.0 }
-{
-    Station(whole::greater(a.0, b.0))
+    Station(AP + l.0)
 }
 
 // The length from one station forward to another; 0 where that one lies abaft it.
 pub fn between(aft: Station, fore: Station) -> Span
     ensures { result.0 ≡ fore.0 - aft.0 }
 {
-    Span(whole::less(fore.0, aft.0))
+    Span(fore.0.saturating_sub(aft.0))
 }
 
 // A station, half a length and a tenth of a length, in tenths of a millimetre: in millimetres the last two need not be whole.
@@ -112,16 +84,14 @@ pub fn in_tenths(s: Station) -> u64
     requires { s.0 < 2 ^ 32 }
     ensures { result ≡ 10 * s.0 }
 {
-    let mm = s.0;
-    10 * mm
+    10 * s.0
 }
 
 pub fn half_in_tenths(l: Span) -> u64
     requires { l.0 < 2 ^ 32 }
     ensures { result ≡ 5 * l.0 }
 {
-    let mm = l.0;
-    5 * mm
+    5 * l.0
 }
 
 pub fn tenth_in_tenths(l: Span) -> u64
@@ -130,7 +100,8 @@ pub fn tenth_in_tenths(l: Span) -> u64
     l.0
 }
 
-// A station as signed millimetres forward of the after perpendicular.
+// A station as signed millimetres forward of the after perpendicular. An ordinate's twin is below: both are one line, a difference from their zero, so that a
+// trait with the zero and its law would be the longer text.
 pub fn mm_of_station(s: Station) -> i64
     requires { s.0 < 2 ^ 32 }
     ensures { result ≡ mm_of s.0 }
@@ -155,10 +126,11 @@ pub fn mm_of_ordinate(o: Ordinate) -> i64
 }
 
 // The ordinate of any number of signed millimetres.
+#[tactic(auto, unfolding(crate::specs::Datum::ordinate_at, whole::specs::Pick::pick))]
 pub fn ordinate_of_mm(mm: i64) -> Ordinate
     ensures { result.0 ≡ ordinate_at mm }
 {
-    if whole::below_zero(mm) & (LIFT < whole::size(mm)) {
+    if mm < 0 && LIFT < mm.unsigned_abs() {
         return Ordinate(2 * LIFT);
     }
     Ordinate(counted_from(LIFT, mm))
@@ -168,13 +140,13 @@ pub fn ordinate_of_mm(mm: i64) -> Ordinate
 pub fn mm_above(o: Ordinate) -> u64
     ensures { result ≡ o.0 - lift }
 {
-    whole::less(o.0, LIFT)
+    o.0.saturating_sub(LIFT)
 }
 
 pub fn mm_below(o: Ordinate) -> u64
     ensures { result ≡ lift - o.0 }
 {
-    whole::less(LIFT, o.0)
+    LIFT.saturating_sub(o.0)
 }
 
 // ---- lengths, effective lengths and freeboards
@@ -182,8 +154,7 @@ pub fn mm_below(o: Ordinate) -> u64
 pub fn dm_within(l: Span) -> u64
     ensures { result ≡ l.0 / 100 }
 {
-    let mm = l.0;
-    mm / 100
+    l.0 / 100
 }
 
 pub fn span_of_dm(k: u64) -> Span
@@ -198,8 +169,7 @@ pub fn effective_of(l: Span) -> Effective
     requires { l.0 < 2 ^ 32 }
     ensures { result.0 ≡ 1000 * l.0 }
 {
-    let mm = l.0;
-    Effective(1000 * mm)
+    Effective(1000 * l.0)
 }
 
 // The freeboard of `mm` millimetres.
@@ -231,35 +201,25 @@ pub fn sum(a: Freeboard, b: Freeboard) -> Freeboard
     requires { (a.0 ≤ 2 ^ 62) × (b.0 ≤ 2 ^ 62) }
     ensures { result.0 ≡ a.0 + b.0 }
 {
-    let m = a.0;
-    let n = b.0;
-    Freeboard(m + n)
+    Freeboard(a.0 + b.0)
 }
 
 // The first freeboard less the second; 0 where the second is the greater.
 pub fn difference(a: Freeboard, b: Freeboard) -> Freeboard
     ensures { result.0 ≡ a.0 - b.0 }
 {
-    Freeboard(whole::less(a.0, b.0))
-}
-
-// The greater of two freeboards.
-pub fn greater(a: Freeboard, b: Freeboard) -> Freeboard
-    ensures { result.0 ≡ max a.0 b.0 }
-{
-    Freeboard(whole::greater(a.0, b.0))
+    Freeboard(a.0.saturating_sub(b.0))
 }
 
 // Whether a mark so many millimetres below the deck line lies at the keel or below it; and the draught at one that does not, 0 at one that does.
 pub fn is_at_keel(depth: Span, mark: u64) -> bool
     ensures { result ≡ leb depth.0 mark }
 {
-    let mm = depth.0;
-    mm <= mark
+    depth.0 <= mark
 }
 
 pub fn draught(depth: Span, mark: u64) -> u64
     ensures { result ≡ depth.0 - mark }
 {
-    whole::less(depth.0, mark)
+    depth.0.saturating_sub(mark)
 }

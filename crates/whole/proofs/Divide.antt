@@ -1,11 +1,12 @@
 -- Laws of quotients rounded up and down, and bounds of products. `omega` multiplies out but does not multiply two facts with each other: these laws hand it
 -- the products.
 use mathlib.Core.Path.{◌≡◌, sym}
-use Prim.Native.Nat.{ℕ, suc, ◌+◌, ◌*◌, ◌-◌, ◌/◌, ◌^◌, ◌≤◌, ◌<◌, min, max}
+use Prim.Native.Nat.{ℕ, suc, ◌+◌, ◌*◌, ◌-◌, ◌/◌, ◌%◌, ◌^◌, ◌≤◌, ◌<◌, min, max}
 use native.Mathlib.Omega.{arith, max_cases, min_cases}
 use native.Mathlib.Decide.{dec_lt}
-use native.Mathlib.Nat.{mul-pos, mul-le-mul, mul-le-mul_right, le_of_mul-le-mul_right, mul-sub, max-eq_left, max-eq_right, min-eq_left, min-eq_right, div-mul-le_self, div-le_of_le-mul, div-lt_iff_lt-mul, lt-div-mul-add}
+use native.Mathlib.Nat.{mul-pos, mul-le-mul, mul-le-mul_right, le_of_mul-le-mul_right, mul-sub, max-eq_left, max-eq_right, min-eq_left, min-eq_right, div-mul-le_self, div-le_of_le-mul, div-lt_iff_lt-mul, lt_of_mul-lt-mul_right, lt-div-mul-add}
 use lib.Dec.{T, leb, ltb, leb→le, ltb→lt}
+use Rattle.std.proofs.lemmas.Grind.{div_ceil_times}
 use Rattle.whole.specs.Divide.{ceil_div}
 
 -- ---- rounded up: the least number whose product with b is not below a
@@ -23,6 +24,14 @@ ceil_most a b q h k = omega (arith, (div-lt_iff_lt-mul {x = a + (b - 1)} {y = su
 
 pub ceil_nought : (b : ℕ) → 0 < b → ceil_div 0 b ≡ 0
 ceil_nought b h = omega (arith, ceil_most 0 b 0 h (omega arith))
+
+-- as std's `div_ceil` says it
+pub of_div_ceil : (a b : ℕ) → 0 < b → a / b + min 1 (a % b) ≡ ceil_div a b
+of_div_ceil a b h =
+    let t = div_ceil_times a b h in
+    let p : ceil_div a b ≤ a / b + min 1 (a % b) = ceil_most a b (a / b + min 1 (a % b)) h t.0 in
+    let q : a / b + min 1 (a % b) < suc (ceil_div a b) = lt_of_mul-lt-mul_right b (omega (arith, t.1, ceil_ge a b h)) in
+    omega arith
 
 -- a factor of both goes; rounded down it is `mul-div-mul_right` of the library
 pub ceil_cancel : (a b k : ℕ) → 0 < b → 0 < k → ceil_div (a * k) (b * k) ≡ ceil_div a b

@@ -3,14 +3,14 @@
 
 ghost use Rattle.std.specs.Prelude.{◌≡◌, ◌+◌, ◌*◌, ◌-◌, ◌/◌, ◌^◌, ◌≤◌, ◌<◌, min, max, nat_abs, pos, ◌-ℤ◌};
 ghost use Rattle.whole.specs.Divide.{ceil_div};
-ghost use Rattle.whole.specs.Sign.{negative};
 
 // a * b / d, rounded up.
+#[tactic(auto, using(crate::proofs::Divide::of_div_ceil))]
 pub fn mul_div_up(a: u64, b: u64, d: u64) -> u64
     requires { (0 < d) × (a * b + d ≤ 2 ^ 64) }
     ensures { result ≡ ceil_div (a * b) d }
 {
-    (a * b + (d - 1)) / d
+    (a * b).div_ceil(d)
 }
 
 // a * b / d, rounded down.
@@ -21,33 +21,34 @@ pub fn mul_div_down(a: u64, b: u64, d: u64) -> u64
     a * b / d
 }
 
-// a / d, rounded up.
+// a / d, rounded up: `div_ceil`, in the word of the contracts, `ceil_div`, so that no caller's proof has to turn the one into the other.
+#[tactic(auto, using(crate::proofs::Divide::of_div_ceil))]
 pub fn div_up(a: u64, d: u64) -> u64
     requires { (0 < d) × (a + d ≤ 2 ^ 64) }
     ensures { result ≡ ceil_div a d }
 {
-    (a + (d - 1)) / d
+    a.div_ceil(d)
 }
 
 // The lesser of the two.
 pub fn lesser(a: u64, b: u64) -> u64
     ensures { result ≡ min a b }
 {
-    if a < b { a } else { b }
+    a.min(b)
 }
 
 // The greater of the two.
 pub fn greater(a: u64, b: u64) -> u64
     ensures { result ≡ max a b }
 {
-    if a < b { b } else { a }
+    a.max(b)
 }
 
 // a - b, and 0 where b is the greater.
 pub fn less(a: u64, b: u64) -> u64
     ensures { result ≡ a - b }
 {
-    if b < a { a - b } else { 0 }
+    a.saturating_sub(b)
 }
 
 // a - b with its sign, of numbers whose difference fits an i64 with ease.
@@ -66,21 +67,10 @@ pub fn with_sign(n: u64) -> i64
     n as i64
 }
 
-// Whether a number is below zero.
-pub fn below_zero(n: i64) -> bool
-    ensures { result ≡ negative n }
-{
-    n < 0
-}
-
 // The size of a number, without its sign.
 pub fn size(n: i64) -> u64
     ensures value { result ≡ nat_abs n }
     ensures upper_bound { result ≤ 2 ^ 63 }
 {
-    if n < 0 {
-        ((-1 - n) as u64) + 1
-    } else {
-        n as u64
-    }
+    n.unsigned_abs()
 }

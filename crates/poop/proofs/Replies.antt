@@ -3,17 +3,15 @@ use Prim.Native.Nat.{ℕ}
 use mathlib.Core.List.{List}
 use mathlib.Core.Path.{◌≡◌, sym, ap, ◌∙◌}
 use native.Mathlib.Omega.{arith}
+use Rattle.std.specs.Prelude.{Result, Ok, Err}
 use Rattle.ship.specs.declared.Ship.{Ship}
 use Rattle.ship.specs.declared.refusal.Refusal.{Refusal}
-use Rattle.ship.specs.declared.refusal.Verdict.TheVariants as Verdicts
 use Rattle.ship.specs.Refusals.{Paper, Line, accepted, refused_as}
 use Rattle.ship.proofs.OneToOne.{one_verdict, number_above_0}
 use Rattle.ship.proofs.Lines.{beside_refusal}
 use Rattle.record.specs.Layout.{ship_in}
 use Rattle.record.specs.Reading.{reading_in}
 use Rattle.record.proofs.Calls.{call_read, call_refused}
-use Rattle.question.specs.declared.Answer.{Answer}
-use Rattle.question.specs.declared.Answer.TheVariants.{Poop, Refused}
 use Rattle.question.specs.Question.{Reply, refusing, reply, ask_lines, reply_of, shortest_for, reply_for, reply_in}
 
 module _ (height wish : ℕ) where
@@ -33,15 +31,12 @@ module _ (height wish : ℕ) where
   reply_refused s r e = call_refused answer more s r e ∙ beside_refusal r (shortest_for (ship_in s) height wish) (refusing (refused_as r))
 
 -- ---- number, place, overlap and length name one answer
-pub one_reply : (a b : Answer) → reply a ≡ reply b → a ≡ b
-one_reply (Poop j) (Poop k) e = ap Poop (ap (λ (r : Reply). r.decimetres) e)
-one_reply (Poop j) (Refused r) e = absurd (omega (arith, number_above_0 r, ap (λ (z : Reply). z.verdict.number) e))
-one_reply (Refused q) (Poop k) e = absurd (omega (arith, number_above_0 q, ap (λ (z : Reply). z.verdict.number) e))
-one_reply (Refused q) (Refused r) e =
-    let v : Verdicts.Refused q ≡ Verdicts.Refused r = one_verdict (Verdicts.Refused q) (Verdicts.Refused r) (ap (λ (z : Reply). z.verdict) e) in
-    let s : q ≡ r = cc in
-    ap Refused s
+pub one_reply : (a b : Result ℕ Refusal) → reply a ≡ reply b → a ≡ b
+one_reply (Ok j) (Ok k) e = ap Ok (ap (λ (r : Reply). r.decimetres) e)
+one_reply (Ok j) (Err r) e = absurd (omega (arith, number_above_0 r, ap (λ (z : Reply). z.verdict.number) e))
+one_reply (Err q) (Ok k) e = absurd (omega (arith, number_above_0 q, ap (λ (z : Reply). z.verdict.number) e))
+one_reply (Err q) (Err r) e = let v = one_verdict (Err q) (Err r) (ap (λ (z : Reply). z.verdict) e) in cc
 
 -- so no second answer meets the contract
-pub one_answer : (s : List ℕ) (height wish : ℕ) (a b : Answer) → reply a ≡ reply_in s height wish → reply b ≡ reply_in s height wish → a ≡ b
+pub one_answer : (s : List ℕ) (height wish : ℕ) (a b : Result ℕ Refusal) → reply a ≡ reply_in s height wish → reply b ≡ reply_in s height wish → a ≡ b
 one_answer s height wish a b p q = one_reply a b (p ∙ sym q)

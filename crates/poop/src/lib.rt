@@ -5,44 +5,35 @@ ghost use Rattle.std.specs.Prelude.{◌≡◌};
 ghost use Rattle.steps.specs.Steps.{Sound};
 ghost use Rattle.question.specs.Question.{reply, no_room, reply_for, reply_in};
 
-use question::Answer;
 use ship::Ship;
-use ship::refusal::{Refusal, Verdict};
+use ship::refusal::Refusal;
 use units::Span;
 
 // Refusal 15: the first house stands where a poop would, or all eight places are taken.
 fn no_room(x: Ship) -> bool
     ensures { result ≡ no_room x }
 {
-    let ap = units::forward_of_ap(Span(0));
-    ((0 < x.n) & (x.houses[0].aft <= ap)) | (x.n == 8)
+    (0 < x.n && x.houses[0].aft <= units::forward_of_ap(Span(0))) || x.n == 8
 }
 
 // The question on a ship that the reader accepts: refusals 14 to 16.
-pub fn of_ship(x: Ship, height: u64, wish: u64) -> Answer
+#[tactic(auto, unfolding(question::specs::Question::reply_for, ship::specs::Refusals::first, whole::specs::Pick::pick))]
+pub fn of_ship(x: Ship, height: u64, wish: u64) -> Result<u64, Refusal>
     requires { Sound x }
     ensures { reply result ≡ reply_for x height wish }
 {
-    if (height < 1) | (8191 < height) | (wish < 50) | (60000 < wish) {
-        return Answer::Refused(Refusal::QuestionRange);
+    if height < 1 || 8191 < height || wish < 50 || 60000 < wish {
+        return Err(Refusal::QuestionRange);
     }
     if no_room(x) {
-        return Answer::Refused(Refusal::NoRoomForPoop);
+        return Err(Refusal::NoRoomForPoop);
     }
     question::shortest(x, Span(height), wish)
 }
 
 // The question on any bytes.
-pub fn of_record(s: &[u8], height: u64, wish: u64) -> Answer
+pub fn of_record(s: &[u8], height: u64, wish: u64) -> Result<u64, Refusal>
     ensures { reply result ≡ reply_in s.now height wish }
 {
-    let a = reader::read(s);
-    let v = a.verdict;
-    match v {
-        Verdict::Accepted => {
-            let x = a.ship;
-            of_ship(x, height, wish)
-        }
-        Verdict::Refused(r) => Answer::Refused(r),
-    }
+    of_ship(reader::read(s)?, height, wish)
 }

@@ -5,8 +5,7 @@
 fn one(rt: &HostRuntime, i: usize) {
     let mut buf = [0u8; 128];
     let n = files::named(rt, i, &mut buf);
-    show::answer(rt, marks::of_record(&buf[..n]));
-    show::text(rt, b"\n");
+    show::answer(rt, &marks::of_record(&buf[..n]));
 }
 
 fn main(rt: HostRuntime) {

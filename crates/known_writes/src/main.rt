@@ -3,99 +3,75 @@
 // What must come is in `stdout`, made by `samples writes` of twin/, which shares no code with the crates.
 #![tactic(auto)]
 
-ghost use Rattle.std.specs.Prelude.{◌<◌, length};
+ghost use Rattle.std.specs.Prelude.{◌<◌};
 
-use ship::refusal::Verdict;
 use ship::{House, Ship};
+use show::Hex;
+use std::{array, io};
 use units::{Ordinate, Span, Station};
 
-// The number at place k.
-fn at(buf: &[u8; 584], k: usize) -> u64
-    requires { k < 73 }
-{
-    let t = &buf[..];
-    let a = 8 * k;
-    let e = a + 8;
-    bits::word(&t[a..e])
+fn numbers(buf: &[u8; 584]) -> [u64; 73] {
+    array::from_fn(|k| bits::word(&buf[8 * k..8 * k + 8]))
 }
 
-fn house(buf: &[u8; 584], k: usize) -> House
+fn house(v: &[u64; 73], k: usize) -> House
     requires { k < 8 }
 {
     let i = 16 + 7 * k;
     House {
-        enclosed: at(buf, i) == 1,
-        quarterdeck: at(buf, i + 1) == 1,
-        aft: Station(at(buf, i + 2)),
-        fore: Station(at(buf, i + 3)),
-        height: Span(at(buf, i + 4)),
-        breadth: Span(at(buf, i + 5)),
-        beam: Span(at(buf, i + 6)),
+        enclosed: v[i] == 1,
+        quarterdeck: v[i + 1] == 1,
+        aft: Station(v[i + 2]),
+        fore: Station(v[i + 3]),
+        height: Span(v[i + 4]),
+        breadth: Span(v[i + 5]),
+        beam: Span(v[i + 6]),
     }
 }
 
-fn vessel(buf: &[u8; 584]) -> Ship {
-    let houses = [
-        house(buf, 0),
-        house(buf, 1),
-        house(buf, 2),
-        house(buf, 3),
-        house(buf, 4),
-        house(buf, 5),
-        house(buf, 6),
-        house(buf, 7),
-    ];
-    let sheer = [
-        Ordinate(at(buf, 8)),
-        Ordinate(at(buf, 9)),
-        Ordinate(at(buf, 10)),
-        Ordinate(at(buf, 11)),
-        Ordinate(at(buf, 12)),
-        Ordinate(at(buf, 13)),
-    ];
+fn vessel(v: &[u64; 73]) -> Ship {
     Ship {
-        kind: at(buf, 1),
-        n: at(buf, 2) as usize,
-        timber: at(buf, 72) == 1,
-        length: Span(at(buf, 3)),
-        depth: Span(at(buf, 4)),
-        moulded: Span(at(buf, 5)),
-        block: at(buf, 6),
-        waterplane: at(buf, 7),
-        sheer,
-        displacement: at(buf, 14),
-        immersion: at(buf, 15),
-        houses,
+        kind: v[1],
+        n: v[2] as usize,
+        timber: v[72] == 1,
+        length: Span(v[3]),
+        depth: Span(v[4]),
+        moulded: Span(v[5]),
+        block: v[6],
+        waterplane: v[7],
+        sheer: array::from_fn(|k| Ordinate(v[8 + k])),
+        displacement: v[14],
+        immersion: v[15],
+        houses: array::from_fn(|k| house(v, k)),
     }
 }
 
-fn put(rt: &HostRuntime, x: Ship, out: &mut [u8]) {
-    let v = writer::write(out, x);
-    match v {
-        Verdict::Accepted => show::text(rt, b"written"),
-        Verdict::Refused(r) => show::refused(rt, r),
+fn put(rt: &HostRuntime, x: Ship, out: &mut [u8]) -> io::Result<()> {
+    match writer::write(out, x) {
+        Ok(()) => print!(rt; "written")?,
+        Err(r) => print!(rt; "{r}")?,
     }
-    if 0 < out.len() {
-        show::text(rt, b" ");
-        show::hex(rt, out);
+    if !out.is_empty() {
+        print!(rt; " {}", Hex(out))?;
     }
-    show::text(rt, b"\n");
+    println!(rt; "")
 }
 
-fn one(rt: &HostRuntime, i: usize) {
+fn one(rt: &HostRuntime, i: usize) -> io::Result<()> {
     let mut buf = [0u8; 584];
     files::named(rt, i, &mut buf);
-    let room = at(&buf, 0) as usize;
+    let v = numbers(&buf);
+    let room = v[0] as usize;
     let mut out = [0xA5u8; 128];
     if room <= 128 {
-        put(rt, vessel(&buf), &mut out[0..room]);
+        put(rt, vessel(&v), &mut out[..room])
     } else {
-        show::text(rt, b"a buffer longer than 128\n");
+        println!(rt; "a buffer longer than 128")
     }
 }
 
 fn main(rt: HostRuntime) {
     for i in 1..files::arg_count(&rt) {
-        one(&rt, i);
+        let _ = one(&rt, i);
     }
 }

@@ -5,7 +5,6 @@ use lib.Dec.{eqb}
 use Rattle.std.specs.Prelude.{Result, Ok, Err}
 use Rattle.whole.specs.Pick.{pick}
 use Rattle.ship.specs.declared.refusal.Refusal.{Refusal}
-use Rattle.ship.specs.declared.refusal.Verdict.TheVariants as Verdicts
 use Rattle.ship.specs.Refusals.{Paper, accepted}
 use Rattle.ship.proofs.OneToOne.{one_verdict, number_above_0}
 use Rattle.mark.specs.declared.Marks.{Marks}
@@ -15,10 +14,7 @@ pub one_sheet : (a b : Result Marks Refusal) → sheet a ≡ sheet b → a ≡ b
 one_sheet (Ok m) (Ok n) e = ap Ok (ap (λ (t : Sheet). t.marks) e)
 one_sheet (Ok m) (Err r) e = absurd (omega (arith, number_above_0 r, ap (λ (t : Sheet). t.verdict.number) e))
 one_sheet (Err r) (Ok m) e = absurd (omega (arith, number_above_0 r, ap (λ (t : Sheet). t.verdict.number) e))
-one_sheet (Err r) (Err q) e =
-    let v : Verdicts.Refused r ≡ Verdicts.Refused q = one_verdict (Verdicts.Refused r) (Verdicts.Refused q) (ap (λ (t : Sheet). t.verdict) e) in
-    let s : r ≡ q = cc in
-    ap Err s
+one_sheet (Err r) (Err q) e = let v = one_verdict (Err r) (Err q) (ap (λ (t : Sheet). t.verdict) e) in cc
 
 -- marks that are given beside a verdict's marks are those, and the verdict accepts
 pub given_marks : (v : Paper) (k m : Marks) → record { verdict = accepted; marks = m } ≡ sheet_of v k → (v ≡ accepted) × (m ≡ k)

@@ -4,9 +4,11 @@ use mathlib.Core.List.{List, ◌++◌}
 use mathlib.Core.Bool.{true, ◌&&◌}
 use mathlib.Core.Path.{◌≡◌, sym, ap, ◌∙◌}
 use lib.Dec.{eqb}
+use Rattle.std.specs.Prelude.{Option, Some, None, IfSome, Result, Ok, Err}
 use borrow.Author.Tests.{leb-false}
 use native.Mathlib.Omega.{arith}
 use Rattle.ship.specs.declared.Ship.{Ship}
+use Rattle.ship.specs.declared.refusal.Refusal.{Refusal}
 use Rattle.ship.specs.Refusals.{Paper, first}
 use Rattle.ship.specs.Checks.{ship_lines}
 use Rattle.ship.proofs.Lines.{AllPass, all_pass, all_pass_split, first_passed}
@@ -16,15 +18,13 @@ use Rattle.record.specs.Reading.{frame_lines}
 use Rattle.record.proofs.Framed.{frame_passed, type_most}
 use Rattle.whole.proofs.Pick.{pick_true}
 use Rattle.mark.specs.declared.Marks.{Marks}
-use Rattle.mark.specs.declared.Answer.TheVariants as Ordinarily
 use Rattle.mark.specs.Others as Ordinary
 use Rattle.mark.specs.Others.{mark_lines, six_marks, sheet_at}
 use Rattle.mark.specs.Summer.{Holds}
 use Rattle.mark.proofs.OneToOne.{given_marks}
 use Rattle.steps.specs.Steps.{Sound, summer_of, particulars_of}
 use Rattle.timber.specs.declared.TimberMarks.{TimberMarks}
-use Rattle.timber.specs.declared.Answer.{Answer}
-use Rattle.timber.specs.declared.Answer.TheVariants.{Given, WithTimber, Refused}
+use Rattle.timber.specs.declared.Given.{Given}
 use Rattle.timber.specs.Timber.{timber_from, timber_marks}
 use Rattle.timber.specs.Answer.{Sheet, sheet, sheet_with}
 use Rattle.steps.specs.Exact.{exact_summer_of}
@@ -33,7 +33,7 @@ use Rattle.steps.proofs.Bound.{summer_bounded, timber_bounded}
 use Rattle.marks.specs.Marks.{sheet_for, sheet_in, answer_for, answer_in, TimberBounded, Bounded}
 
 -- ---- the timber marks of an answer that has them
-module _ (x : Ship) (o : Ordinary.Sheet) (m : Marks) (t : TimberMarks) (e : sheet (WithTimber m t) ≡ sheet_with o x.timber (timber_marks_of x o.marks)) where
+module _ (x : Ship) (o : Ordinary.Sheet) (m : Marks) (t : TimberMarks) (e : sheet (Ok (record { ordinary = m; timber = Some t })) ≡ sheet_with o x.timber (timber_marks_of x o.marks)) where
   -- they are the ship's, beside its ordinary marks
   pub timber_is : t ≡ timber_marks_of x m
   unfolding sheet_with
@@ -46,16 +46,20 @@ module _ (x : Ship) (o : Ordinary.Sheet) (m : Marks) (t : TimberMarks) (e : shee
   unfolding timber_marks_of timber_marks timber_from
   timber_close k h = rw (ap (λ (n : TimberMarks). n.ls) (timber_is ∙ pick_true _ _ _ h)) (timber_bounded x k)
 
+if_timber : (x : Ship) (o : Ordinary.Sheet) (m : Marks) → Sound x → (t : Option TimberMarks)
+    → sheet (Ok (record { ordinary = m; timber = t })) ≡ sheet_with o x.timber (timber_marks_of x o.marks) → IfSome t (λ u. TimberBounded u x)
+if_timber x o m k None e = tt
+if_timber x o m k (Some t) e = timber_close x o m t e k
+
 -- ---- an answer that meets the call's equation is within the bound as well
-ordinary_close : (x : Ship) → Sound x → (m : Marks) → Ordinary.sheet (Ordinarily.Given m) ≡ sheet_for x → Holds m.s (exact_summer_of x)
+ordinary_close : (x : Ship) → Sound x → (m : Marks) → Ordinary.sheet (Ok m) ≡ sheet_for x → Holds m.s (exact_summer_of x)
 unfolding sheet_for sheet_at six_marks
 ordinary_close x k m e = rw (given_marks (first (mark_lines (particulars_of x) (summer_of x))) (six_marks (particulars_of x) (summer_of x)) m e).1 (summer_bounded x k)
 
-pub bounded : (x : Ship) → Sound x → (r : Answer) → sheet r ≡ answer_for x → Bounded r x
+pub bounded : (x : Ship) → Sound x → (r : Result Given Refusal) → sheet r ≡ answer_for x → Bounded r x
 unfolding answer_for sheet_with
-bounded x k (Given m) e = ordinary_close x k m (ap (λ (s : Sheet). s.ordinary) e)
-bounded x k (WithTimber m t) e = (ordinary_close x k m (ap (λ (s : Sheet). s.ordinary) e), timber_close x (sheet_for x) m t e k)
-bounded x k (Refused r) e = tt
+bounded x k (Ok g) e = (ordinary_close x k g.ordinary (ap (λ (s : Sheet). s.ordinary) e), if_timber x (sheet_for x) g.ordinary k g.timber e)
+bounded x k (Err r) e = tt
 
 -- bytes whose lines 1 to 11, 18 and 22 to 24 all pass are of a ship that the steps can take
 pub sound : (s : List ℕ) → AllPass (frame_lines s) → AllPass (ship_lines (ship_in s)) → Sound (ship_in s)
@@ -65,7 +69,7 @@ sound s a b =
     record { type = type_most (head_in s).version f.type; timber = f.timber; few = f.few; good = good (ship_in s) (ap (λ (t : Paper). t.number) (first_passed (ship_lines (ship_in s)) b)) }
 
 -- what marks that are given show: the ship is sound, its S is below D, and they are its six
-pub given_in : (s : List ℕ) (m : Marks) → Ordinary.sheet (Ordinarily.Given m) ≡ sheet_in s
+pub given_in : (s : List ℕ) (m : Marks) → Ordinary.sheet (Ok m) ≡ sheet_in s
     → let x = ship_in s in Sound x × (summer_of x < x.depth.0) × (m ≡ six_marks (particulars_of x) (summer_of x))
 unfolding sheet_in particulars_of
 given_in s m e =
@@ -76,15 +80,14 @@ given_in s m e =
     let q = all_pass_split (ship_lines x) more p.1 in
     (sound s p.0 q.0, leb-false x.depth.0 (summer_of x) q.1.0, (given_marks (first (frame_lines s ++ (ship_lines x ++ more))) (six_marks (particulars_of x) (summer_of x)) m e).1)
 
-given_close : (s : List ℕ) (m : Marks) → Ordinary.sheet (Ordinarily.Given m) ≡ sheet_in s → Sound (ship_in s) × Holds m.s (exact_summer_of (ship_in s))
+given_close : (s : List ℕ) (m : Marks) → Ordinary.sheet (Ok m) ≡ sheet_in s → Sound (ship_in s) × Holds m.s (exact_summer_of (ship_in s))
 unfolding six_marks
 given_close s m e = let g = given_in s m e in (g.0, rw g.2 (summer_bounded (ship_in s) g.0))
 
 -- for every byte string for which the marks call gives marks
-pub bounded_in : (s : List ℕ) (r : Answer) → sheet r ≡ answer_in s → Bounded r (ship_in s)
+pub bounded_in : (s : List ℕ) (r : Result Given Refusal) → sheet r ≡ answer_in s → Bounded r (ship_in s)
 unfolding answer_in sheet_with
-bounded_in s (Given m) e = (given_close s m (ap (λ (t : Sheet). t.ordinary) e)).1
-bounded_in s (WithTimber m t) e =
-    let g = given_close s m (ap (λ (u : Sheet). u.ordinary) e) in
-    (g.1, timber_close (ship_in s) (sheet_in s) m t e g.0)
-bounded_in s (Refused r) e = tt
+bounded_in s (Ok g) e =
+    let h = given_close s g.ordinary (ap (λ (t : Sheet). t.ordinary) e) in
+    (h.1, if_timber (ship_in s) (sheet_in s) g.ordinary h.0 g.timber e)
+bounded_in s (Err r) e = tt

@@ -6,6 +6,7 @@ use mathlib.Core.List.{List, ◌++◌}
 use mathlib.Core.Logic.{◌⊎◌, inl, inr}
 use mathlib.Core.Path.{◌≡◌, sym, ap, ap₂, subst, ◌∙◌}
 use lib.IntN.{pos}
+use Rattle.std.specs.Prelude.{Some, Ok}
 use lib.Signed.{◌≤ℤ◌}
 use Rattle.whole.proofs.Pick.{pick_true}
 use Rattle.ship.specs.declared.Ship.{Ship}
@@ -17,13 +18,11 @@ use Rattle.ship.proofs.Timber.{with_flag}
 use Rattle.record.specs.Reading.{frame_lines, reading_in}
 use Rattle.record.proofs.Flag.{FlagAlone, flag_ship, flag_frame, flag_verdict}
 use Rattle.mark.specs.declared.Marks.{Marks}
-use Rattle.mark.specs.declared.Answer.TheVariants as Ordinarily
 use Rattle.mark.specs.Others as Ordinary
 use Rattle.mark.specs.declared.Particulars.{Particulars}
 use Rattle.mark.specs.Others.{six_marks, mark_lines, sheet_of, sheet_at}
 use Rattle.mark.proofs.Given.{six_above}
 use Rattle.timber.specs.declared.TimberMarks.{TimberMarks}
-use Rattle.timber.specs.declared.Answer.TheVariants.{WithTimber}
 use Rattle.timber.specs.Timber.{timber_from, timber_marks, no_timber}
 use Rattle.timber.specs.Answer.{Sheet, sheet, sheet_with}
 use Rattle.timber.proofs.Order.{AboveOrLevel, tropical_first, fresh_first, fresh_lowest, winter_or_level, none_given, given_not_zero, zeros_tell}
@@ -35,7 +34,7 @@ use Rattle.marks.proofs.Sheet.{sheet_read}
 use Rattle.marks.proofs.Demand.{given_in, timber_is}
 
 -- ---- an answer with timber marks
-module _ (s : List ℕ) (m : Marks) (t : TimberMarks) (e : sheet (WithTimber m t) ≡ answer_in s) where
+module _ (s : List ℕ) (m : Marks) (t : TimberMarks) (e : sheet (Ok (record { ordinary = m; timber = Some t })) ≡ answer_in s) where
   abbrev x : Ship
   x = ship_in s
 
@@ -43,7 +42,7 @@ module _ (s : List ℕ) (m : Marks) (t : TimberMarks) (e : sheet (WithTimber m t
   unfolding answer_in
   is = timber_is x (sheet_in s) m t e
 
-  ordinary : Ordinary.sheet (Ordinarily.Given m) ≡ sheet_in s
+  ordinary : Ordinary.sheet (Ok m) ≡ sheet_in s
   unfolding answer_in sheet_with
   ordinary = ap (λ (a : Sheet). a.ordinary) e
 

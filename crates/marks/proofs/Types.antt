@@ -4,12 +4,12 @@ use mathlib.Core.Bool.{true, false}
 use mathlib.Core.List.{List}
 use mathlib.Core.Path.{◌≡◌, refl, sym, ap, ap₂, ◌∙◌}
 use native.Mathlib.Omega.{arith}
+use Rattle.std.specs.Prelude.{Ok}
 use Rattle.ship.specs.declared.Ship.{Ship}
 use Rattle.ship.specs.Kinds.{kind_a, kind_b, kind_b100}
 use Rattle.ship.specs.Refusals.{accepted, first}
 use Rattle.record.specs.Reading.{reading_in}
 use Rattle.mark.specs.declared.Marks.{Marks}
-use Rattle.mark.specs.declared.Answer.TheVariants.{Given}
 use Rattle.mark.specs.Others.{Sheet, mark_lines, six_marks, sheet, sheet_at}
 use Rattle.mark.proofs.OneToOne.{given_marks}
 use Rattle.houses.specs.Effective.{exact_effective}
@@ -32,7 +32,7 @@ unfolding sheet_for
 four_kinds x kind b = ap₂ sheet_at (four_particulars x kind b) (four_summers x kind b)
 
 -- the S that a call gives is the steps'
-pub given_summer : (s : List ℕ) (x : Ship) → reading_in s ≡ record { verdict = accepted; ship = x } → (m : Marks) → sheet (Given m) ≡ sheet_in s → m.s ≡ summer_of x
+pub given_summer : (s : List ℕ) (x : Ship) → reading_in s ≡ record { verdict = accepted; ship = x } → (m : Marks) → sheet (Ok m) ≡ sheet_in s → m.s ≡ summer_of x
 unfolding sheet_for sheet_at six_marks
 given_summer s x e m g =
     ap (λ (n : Marks). n.s) (given_marks (first (mark_lines (particulars_of x) (summer_of x))) (six_marks (particulars_of x) (summer_of x)) m (g ∙ sheet_read s x e)).1
@@ -40,7 +40,7 @@ given_summer s x e m g =
 -- two records whose ships differ in type alone, the types in the order A, B-100, B-60, B, portable covers: where both get marks, S is in that order
 pub marks_in_order : (x : Ship) (i j : ℕ) → i ≤ j → j ≤ 4 → (s t : List ℕ)
     → reading_in s ≡ record { verdict = accepted; ship = of_kind (in_order i) x } → reading_in t ≡ record { verdict = accepted; ship = of_kind (in_order j) x }
-    → (m n : Marks) → sheet (Given m) ≡ sheet_in s → sheet (Given n) ≡ sheet_in t → m.s ≤ n.s
+    → (m n : Marks) → sheet (Ok m) ≡ sheet_in s → sheet (Ok n) ≡ sheet_in t → m.s ≤ n.s
 marks_in_order x i j h k s t p q m n a b =
     rw (given_summer s (of_kind (in_order i) x) p m a, given_summer t (of_kind (in_order j) x) q n b)
     (summers_in_order x (sound_read s (of_kind (in_order i) x) p).good.length_most i j h k)

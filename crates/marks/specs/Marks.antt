@@ -1,7 +1,8 @@
 -- The marks call: refusals 1 to 13, 24 after 3, 22 after 7, 23 after 9, and 18 with 11, in the papers' order, then the six marks, and six timber marks where they
 -- are asked for.
-use Rattle.std.specs.Prelude.{ℕ, true, List, ◌++◌, ◌≡◌}
+use Rattle.std.specs.Prelude.{ℕ, true, List, ◌++◌, ◌≡◌, IfSome, Result, Ok, Err}
 use Rattle.ship.specs.declared.Ship.{Ship}
+use Rattle.ship.specs.declared.refusal.Refusal.{Refusal}
 use Rattle.ship.specs.Refusals.{first}
 use Rattle.ship.specs.Checks.{ship_lines}
 use Rattle.record.specs.Layout.{ship_in}
@@ -9,8 +10,7 @@ use Rattle.record.specs.Reading.{frame_lines}
 use Rattle.mark.specs.Summer.{Holds}
 use Rattle.mark.specs.Others.{Sheet, sheet_of, sheet_at, mark_lines, six_marks}
 use Rattle.timber.specs.declared.TimberMarks.{TimberMarks}
-use Rattle.timber.specs.declared.Answer.{Answer}
-use Rattle.timber.specs.declared.Answer.TheVariants.{Given, WithTimber, Refused}
+use Rattle.timber.specs.declared.Given.{Given}
 use Rattle.timber.specs.Exact.{HoldsSigned}
 use Rattle.timber.specs.Answer as Whole
 use Rattle.timber.specs.Answer.{sheet_with}
@@ -40,7 +40,6 @@ answer_in s = sheet_with (sheet_in s) (ship_in s).timber (timber_marks_of (ship_
 abbrev pub TimberBounded : TimberMarks → Ship → Type 0
 TimberBounded t x = has_timber x ≡ true → HoldsSigned t.ls (exact_timber_added x) (exact_timber_taken x)
 
-abbrev pub Bounded : Answer → Ship → Type 0
-Bounded (Given m) x = Holds m.s (exact_summer_of x)
-Bounded (WithTimber m t) x = Holds m.s (exact_summer_of x) × TimberBounded t x
-Bounded (Refused r) x = Unit {0}
+abbrev pub Bounded : Result Given Refusal → Ship → Type 0
+Bounded (Ok g) x = Holds g.ordinary.s (exact_summer_of x) × IfSome g.timber (λ t. TimberBounded t x)
+Bounded (Err r) x = Unit {0}

@@ -14,9 +14,9 @@ ghost use Rattle.marks.specs.Marks.{answer_for, answer_in, Bounded};
 use deck::Deck;
 use hull::Hull;
 use mark::Marks;
-use ship::refusal::Verdict;
+use ship::refusal::Refusal;
 use ship::{Ship, kind};
-use timber::{Answer, TimberMarks};
+use timber::{Given, TimberMarks};
 
 // The timber marks of a ship, by its hull and its deck, beside its ordinary marks.
 fn timber_marks(x: Ship, h: Hull, d: Deck, m: Marks) -> TimberMarks
@@ -29,39 +29,23 @@ fn timber_marks(x: Ship, h: Hull, d: Deck, m: Marks) -> TimberMarks
 }
 
 // The marks of a ship that the reader accepts, or refusal 12 or 13.
-pub fn of_ship(x: Ship) -> Answer
+pub fn of_ship(x: Ship) -> Result<Given, Refusal>
     requires { Sound x }
     ensures equation { sheet result ≡ answer_for x }
     ensures bounded { Bounded result x }
 {
-    let hs = x.houses;
     let h = hull::hull_of(x);
-    let d = deck::deck_of(x.length, hs, x.n);
+    let d = deck::deck_of(x.length, x.houses, x.n);
     let s = summer::summer_on(h, d);
-    let a = mark::follow(hull::particulars_of(x, h.basis.floor), s);
-    match a {
-        mark::Answer::Given(m) => {
-            if x.timber {
-                return Answer::WithTimber(m, timber_marks(x, h, d, m));
-            }
-            Answer::Given(m)
-        }
-        mark::Answer::Refused(r) => Answer::Refused(r),
-    }
+    let ordinary = mark::follow(hull::particulars_of(x, h.basis.floor), s)?;
+    let timber = x.timber.then(|| timber_marks(x, h, d, ordinary));
+    Ok(Given { ordinary, timber })
 }
 
 // The marks of any bytes.
-pub fn of_record(s: &[u8]) -> Answer
+pub fn of_record(s: &[u8]) -> Result<Given, Refusal>
     ensures equation { sheet result ≡ answer_in s.now }
     ensures bounded { Bounded result (ship_in s.now) }
 {
-    let a = reader::read(s);
-    let v = a.verdict;
-    match v {
-        Verdict::Accepted => {
-            let x = a.ship;
-            of_ship(x)
-        }
-        Verdict::Refused(r) => Answer::Refused(r),
-    }
+    of_ship(reader::read(s)?)
 }

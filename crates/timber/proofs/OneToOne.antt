@@ -33,10 +33,7 @@ sheet_one (Ok g) (Ok h) e =
     λ i. Ok (record { ordinary = (e i).ordinary.marks; timber = t i })
 sheet_one (Ok g) (Err r) e = absurd (refuses r (sym (ap (λ (s : Sheet). s.ordinary.verdict.number) e)))
 sheet_one (Err r) (Ok g) e = absurd (refuses r (ap (λ (s : Sheet). s.ordinary.verdict.number) e))
-sheet_one (Err r) (Err q) e =
-    let o = one_sheet (Err r) (Err q) (ap (λ (s : Sheet). s.ordinary) e) in
-    let s : r ≡ q = cc in
-    ap Err s
+sheet_one (Err r) (Err q) e = let o = one_sheet (Err r) (Err q) (ap (λ (s : Sheet). s.ordinary) e) in cc
 
 -- ---- each answer is the ordinary sheet with timber marks beside it
 pub sheet_given : (m : Marks) (t : TimberMarks) → sheet (Ok (record { ordinary = m; timber = None })) ≡ sheet_with (Mark.sheet (Ok m)) false t

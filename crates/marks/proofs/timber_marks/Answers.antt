@@ -1,0 +1,17 @@
+-- LS of hull and deck is the ship's, and what follows from it are its timber marks.
+use mathlib.Core.Path.{◌≡◌, ap, ◌∙◌}
+use Rattle.timber.specs.Timber.{signed, timber_marks}
+use Rattle.steps.specs.Timber.{timber_summer_of, timber_marks_of}
+use Rattle.summer.specs.Parts.{timber_on}
+use Rattle.summer.proofs.Parts.{timber_parts}
+use Rattle.marks.proofs.timber_marks.Goals as goal
+
+pub returns : goal.returns
+unfolding timber_marks_of
+returns c =
+    let x = c.args.x in
+    let m = c.args.m in
+    let p = c.requires.sound in
+    let ls : signed c.timber_on-s.result ≡ timber_summer_of x =
+    ap signed (c.timber_on-s.ensures.value ∙ (λ i. timber_on (c.timber_line.ensures.result_value i) (p.1 i) (p.2 i))) ∙ timber_parts x p.0.good.houses in
+    c.follow.ensures ∙ (λ i. timber_marks (c.is_reduced.ensures i) m.w m.wna x.depth.0 (ls i))

@@ -7,24 +7,22 @@ ghost use Rattle.record.specs.Layout.{ship_in};
 ghost use Rattle.timber.specs.Answer.{sheet};
 ghost use Rattle.steps.specs.Steps.{Sound};
 ghost use Rattle.steps.specs.Timber.{timber_marks_of};
-ghost use Rattle.deck.specs.Deck.{deck_of, FairDeck};
-ghost use Rattle.hull.specs.Parts.{hull_of, FairHull};
+ghost use Rattle.deck.specs.Deck.{deck_of};
+ghost use Rattle.hull.specs.Parts.{hull_of};
 ghost use Rattle.marks.specs.Marks.{answer_for, answer_in, Bounded};
 
-use deck::Deck;
-use hull::Hull;
 use mark::Marks;
 use ship::refusal::Refusal;
 use ship::{Ship, kind};
+use summer::Vessel;
 use timber::{Given, TimberMarks};
 
 // The timber marks of a ship, by its hull and its deck, beside its ordinary marks.
-fn timber_marks(x: Ship, h: Hull, d: Deck, m: Marks) -> TimberMarks
-    requires sound { Sound x × (h ≡ hull_of x) × (d ≡ deck_of x.length.0 (houses_of x)) × (m.w ≤ 120000) }
-    requires fair_hull { FairHull h × FairDeck h.length.0 d }
+fn timber_marks(x: Ship, v: Vessel, m: Marks) -> TimberMarks
+    requires { Sound x × (v.hull ≡ hull_of x) × (v.deck ≡ deck_of x.length.0 (houses_of x)) × (m.w ≤ 120000) }
     ensures { result ≡ timber_marks_of x m }
 {
-    let s = summer::timber_on(hull::timber_line(x), h, d);
+    let s = v.timber(hull::timber_line(x));
     timber::follow(kind::is_reduced(x.kind), m.w, m.wna, x.depth, s)
 }
 
@@ -34,11 +32,11 @@ pub fn of_ship(x: Ship) -> Result<Given, Refusal>
     ensures equation { sheet result ≡ answer_for x }
     ensures bounded { Bounded result x }
 {
-    let h = hull::hull_of(x);
-    let d = deck::deck_of(x.length, x.houses, x.n);
-    let s = summer::summer_on(h, d);
-    let ordinary = mark::follow(hull::particulars_of(x, h.basis.floor), s)?;
-    let timber = x.timber.then(|| timber_marks(x, h, d, ordinary));
+    let hull = hull::hull_of(x);
+    let deck = deck::deck_of(x.length, x.houses, x.n);
+    let vessel = Vessel { hull, deck };
+    let ordinary = mark::follow(hull::particulars_of(x, hull.basis.floor), vessel.summer())?;
+    let timber = x.timber.then(|| timber_marks(x, vessel, ordinary));
     Ok(Given { ordinary, timber })
 }
 

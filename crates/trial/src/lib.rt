@@ -7,9 +7,11 @@ ghost use Rattle.trial.specs.Poop.{poop_house};
 ghost use Rattle.trial.specs.Standing.{room_of, standing_of, deck_for, marked_on, fits_on, Fair};
 
 use deck::Deck;
+use houses::Placed;
 use hull::Hull;
 use mark::Particulars;
 use ship::{House, Ship};
+use summer::Vessel;
 use units::{Ratio, Span};
 
 // What no length of poop changes: the hull, the deck without a poop, the poop's ratio of heights, how far it may reach, what the marks need besides, and what is
@@ -81,7 +83,11 @@ fn deck_for(q: Standing, k: u64) -> Deck
     if k == 0 {
         return q.deck;
     }
-    deck::with_house(q.hull.length, poop_house(q.height, k), q.ratio, q.deck)
+    let poop = Placed {
+        l: q.hull.length,
+        house: poop_house(q.height, k),
+    };
+    deck::with_house(poop, q.ratio, q.deck)
 }
 
 // Whether the marks that follow from `s` are given, with S at most the wish.
@@ -98,5 +104,12 @@ pub fn fits(q: Standing, k: u64) -> bool
     requires { Fair q × (100 * k ≤ q.hull.length.0) }
     ensures { result ≡ fits_on q k }
 {
-    units::span_of_dm(k).0 <= q.room.0 && marked(q, summer::summer_on(q.hull, deck_for(q, k)))
+    if q.room.0 < units::span_of_dm(k).0 {
+        return false;
+    }
+    let vessel = Vessel {
+        hull: q.hull,
+        deck: deck_for(q, k),
+    };
+    marked(q, vessel.summer())
 }

@@ -8,7 +8,6 @@ pub with_house-requires : goal.with_house-requires
 with_house-requires c =
     let q = c.args.q in
     let f = c.requires.0 in (
-      f.hull.length_most,
       rw c.poop_house.ensures
           (poop_good q.hull.length.0 q.height.0 c.args.k (omega arith) (omega (arith, f.hull.length_least)) c.requires.1 f.height_least f.height_most),
       f.ratio c.args.k ∙ ap (ratio_of q.hull.length.0) (sym c.poop_house.ensures),

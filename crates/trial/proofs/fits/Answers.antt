@@ -1,5 +1,5 @@
 use native.Mathlib.Omega.{arith}
 use Rattle.trial.proofs.fits.Goals as goal
 
-pub summer_on-requires : goal.summer_on-requires
-summer_on-requires c = let f = c.requires.0 in (f.hull, rw c.deck_for.ensures (f.poop c.args.k c.requires.1 (omega arith)))
+pub invariant_of-vessel : goal.invariant_of-vessel
+invariant_of-vessel c = let f = c.requires.0 in record { fair_hull = f.hull; fair_deck = rw c.deck_for.ensures (f.poop c.args.k c.requires.1 (omega arith)) }

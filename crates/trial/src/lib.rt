@@ -12,7 +12,7 @@ use hull::Hull;
 use mark::Particulars;
 use ship::{House, Ship};
 use summer::Vessel;
-use units::{Ratio, Span};
+use units::{Length, Ratio, Span};
 
 // What no length of poop changes: the hull, the deck without a poop, the poop's ratio of heights, how far it may reach, what the marks need besides, and what is
 // asked.
@@ -65,7 +65,7 @@ pub fn standing_of(x: Ship, height: Span, wish: u64) -> Standing
     let hull = hull::hull_of(x);
     Standing {
         hull,
-        deck: deck::deck_of(x.length, x.houses, x.n),
+        deck: deck::deck_of(hull::length_of(x), x.houses, x.n),
         ratio: effective::height_ratio(x.length, poop_house(height, 0)),
         room: room_of(x),
         particulars: hull::particulars_of(x, hull.basis.floor),
@@ -84,7 +84,9 @@ fn deck_for(q: Standing, k: u64) -> Deck
         return q.deck;
     }
     let poop = Placed {
-        l: q.hull.length,
+        l: Length {
+            mm: q.hull.length.0,
+        },
         house: poop_house(q.height, k),
     };
     deck::with_house(poop, q.ratio, q.deck)

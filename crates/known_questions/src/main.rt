@@ -2,29 +2,21 @@
 // What must come is in `stdout`, made by `samples questions` of twin/, which shares no code with the crates.
 #![tactic(auto)]
 
-use question::Answer;
+use ship::refusal::Refusal;
+use show::Poop;
 
-fn ask(s: &[u8]) -> Answer {
-    if s.len() < 16 {
+fn ask(s: &[u8]) -> Result<u64, Refusal> {
+    let Some((asked, record)) = s.split_at_checked(16) else {
         return poop::of_record(s, 0, 0);
-    }
-    let height = bits::word(&s[0..8]);
-    let wish = bits::word(&s[8..16]);
-    poop::of_record(&s[16..], height, wish)
+    };
+    let (height, wish) = asked.split_at(8);
+    poop::of_record(record, bits::word(height), bits::word(wish))
 }
 
 fn one(rt: &HostRuntime, i: usize) {
     let mut buf = [0u8; 144];
     let n = files::named(rt, i, &mut buf);
-    let a = ask(&buf[..n]);
-    match a {
-        Answer::Poop(k) => {
-            show::text(rt, b"poop");
-            show::next(rt, k);
-        }
-        Answer::Refused(r) => show::refused(rt, r),
-    }
-    show::text(rt, b"\n");
+    show::answer(rt, &ask(&buf[..n]).map(Poop));
 }
 
 fn main(rt: HostRuntime) {

@@ -1,7 +1,7 @@
 // The shortest poop of the record on standard input: shortest HEIGHT WISH, both in millimetres.
 #![tactic(auto)]
 
-use question::Answer;
+use show::Poop;
 
 fn argument(rt: &HostRuntime, i: usize) -> Option<u64> {
     let mut buf = [0u8; 4096];
@@ -13,38 +13,23 @@ fn argument(rt: &HostRuntime, i: usize) -> Option<u64> {
 fn answer(rt: &HostRuntime, height: u64, wish: u64) {
     let mut buf = [0u8; 124];
     let n = files::read_full(&mut rt.stdin(), &mut buf);
-    let a = poop::of_record(&buf[..n], height, wish);
-    match a {
-        Answer::Poop(k) => {
-            show::text(rt, b"poop");
-            show::next(rt, k);
-        }
-        Answer::Refused(r) => show::refused(rt, r),
-    }
-    show::text(rt, b"\n");
+    show::answer(rt, &poop::of_record(&buf[..n], height, wish).map(Poop));
+}
+
+// What is printed in place of an answer.
+fn complain(rt: &HostRuntime, what: &str) {
+    let _ = println!(rt; "shortest: {what}");
 }
 
 fn main(rt: HostRuntime) {
     if files::arg_count(&rt) != 3 {
-        show::text(
-            &rt,
-            b"shortest: two arguments are needed, HEIGHT and WISH\n",
-        );
-        return;
+        return complain(&rt, "two arguments are needed, HEIGHT and WISH");
     }
     let Some(height) = argument(&rt, 1) else {
-        show::text(
-            &rt,
-            b"shortest: HEIGHT is a whole number of millimetres below 2^64\n",
-        );
-        return;
+        return complain(&rt, "HEIGHT is a whole number of millimetres below 2^64");
     };
     let Some(wish) = argument(&rt, 2) else {
-        show::text(
-            &rt,
-            b"shortest: WISH is a whole number of millimetres below 2^64\n",
-        );
-        return;
+        return complain(&rt, "WISH is a whole number of millimetres below 2^64");
     };
     answer(&rt, height, wish);
 }

@@ -84,10 +84,7 @@ pub fn house_breaks(rule: Rule, l: Span, before: Station, h: House) -> bool
         Rule::EndsAndHeight => bad_ends(l, h),
         Rule::SetInSides => bad_breadths(h),
         Rule::RaisedQuarterdeck => bad_quarterdeck(l, h),
-        Rule::Follows => {
-            let aft = h.aft;
-            units::is_abaft(aft, before)
-        }
+        Rule::Follows => h.aft < before,
     }
 }
 
@@ -108,13 +105,9 @@ pub fn breaks_any(l: Span, before: Station, h: House) -> bool
 pub fn misplaced(k: usize, before: House, h: House) -> Refusal
     ensures { refused_as result ≡ first (order_lines_at k true before h) }
 {
-    let aft = h.aft;
-    let begins = before.aft;
-    if units::is_abaft(aft, begins) {
+    if h.aft < before.aft {
         return Refusal::OutOfOrder(k);
     }
-    let fore = h.fore;
-    let ends = before.fore;
-    let end = units::aftermost(ends, fore);
-    Refusal::Overlap(k, units::between(aft, end))
+    let end = before.fore.min(h.fore);
+    Refusal::Overlap(k, units::between(h.aft, end))
 }

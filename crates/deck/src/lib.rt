@@ -1,7 +1,7 @@
 // What the houses on a deck give to the steps: sums over them (33 to 35, and 38's cover), the forecastle, and the house amidships (31).
 #![tactic(auto)]
 
-ghost use Rattle.std.specs.Prelude.{◌≡◌, [], ◌≤◌, take};
+ghost use Rattle.std.specs.Prelude.{◌≡◌, [], ◌≤◌};
 ghost use Rattle.whole.specs.Pick.{pick};
 ghost use Rattle.ship.specs.Good.{GoodHouse, GoodHouses};
 ghost use Rattle.houses.specs.Amidships.{covers_amidships};
@@ -99,14 +99,14 @@ fn bare_deck(l: Span) -> Deck
     }
 }
 
-// The deck of the first `n` houses, built from the foremost to the aftmost.
-pub fn deck_of(l: Span, hs: [House; 8], n: usize) -> Deck
-    requires { (l.0 ≤ 365000) × (n ≤ 8) × GoodHouses l.0 (take n hs) }
-    ensures value { result ≡ deck_of l.0 (take n hs) }
+// The deck of a list of houses, built from the foremost to the aftmost.
+pub fn deck_of(l: Span, hs: &[House]) -> Deck
+    requires { (l.0 ≤ 365000) × GoodHouses l.0 hs.now }
+    ensures value { result ≡ deck_of l.0 hs.now }
     ensures fair_deck { FairDeck l.0 result }
 {
     let mut d = bare_deck(l);
-    for &house in hs[..n].iter().rev() {
+    for &house in hs.iter().rev() {
         let ratio = effective::height_ratio(l, house);
         d = with_house(Placed { l, house }, ratio, d);
     }

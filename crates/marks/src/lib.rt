@@ -33,7 +33,7 @@ pub fn of_ship(x: Ship) -> Result<Given, Refusal>
     ensures bounded { Bounded result x }
 {
     let hull = hull::hull_of(x);
-    let deck = deck::deck_of(x.length, x.houses, x.n);
+    let deck = deck::deck_of(x.length, &x.houses[..x.n]);
     let vessel = Vessel { hull, deck };
     let ordinary = mark::follow(hull::particulars_of(x, hull.basis.floor), vessel.summer())?;
     let timber = x.timber.then(|| timber_marks(x, vessel, ordinary));

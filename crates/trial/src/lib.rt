@@ -65,7 +65,7 @@ pub fn standing_of(x: Ship, height: Span, wish: u64) -> Standing
     let hull = hull::hull_of(x);
     Standing {
         hull,
-        deck: deck::deck_of(x.length, x.houses, x.n),
+        deck: deck::deck_of(x.length, &x.houses[..x.n]),
         ratio: effective::height_ratio(x.length, poop_house(height, 0)),
         room: room_of(x),
         particulars: hull::particulars_of(x, hull.basis.floor),

@@ -1,4 +1,4 @@
-use Rattle.std.proofs.Common.{◌≡◌, [], ◌∷◌, ◌++◌, take, sym, subst, ap, ◌∙◌, append_assoc, arith}
+use Rattle.std.proofs.Common.{◌≡◌, [], ◌∷◌, ◌++◌, sym, subst, ap, ◌∙◌, append_assoc, arith}
 use Rattle.std.proofs.lemmas.List.{append-nil, nil_from_length}
 use Rattle.ship.specs.Good.{GoodHouses}
 use Rattle.houses.proofs.Order.{tail}
@@ -15,11 +15,11 @@ loop-house-init c = record {
 }
 
 -- the house belongs before those passed, and all of them are good
-all_now : (c : In-Some) → c.next.new.self.iter.rest.now ++ c.in-Some.field-0.now ∷ c.loop-house.invariant.passed ≡ take c.args.n c.args.hs
+all_now : (c : In-Some) → c.next.new.self.iter.rest.now ++ c.in-Some.field-0.now ∷ c.loop-house.invariant.passed ≡ c.args.hs.now
 all_now c = rw (c.in-Some.ensures.steps, append_assoc) at c.loop-house.invariant.all
 
 good_now : (c : In-Some) → GoodHouses c.args.l.0 (c.in-Some.field-0.now ∷ c.loop-house.invariant.passed)
-good_now c = good_from c.args.l.0 c.next.new.self.iter.rest.now _ (subst (GoodHouses c.args.l.0) (sym (all_now c)) c.requires.2)
+good_now c = good_from c.args.l.0 c.next.new.self.iter.rest.now _ (subst (GoodHouses c.args.l.0) (sym (all_now c)) c.requires.1)
 
 pub with_house-d-requires : goal.with_house-d-requires
 with_house-d-requires c =
@@ -43,4 +43,4 @@ pub returns : goal.returns
 returns c =
     let a = rw (nil_from_length _ c.in-None.ensures.steps.0) at c.loop-house.invariant.all in
     let e = c.loop-house.invariant.deck ∙ ap (deck_of c.args.l.0) a in
-    record { value = e; fair_deck = rw e (fair_deck c.args.l.0 _ c.requires.0 c.requires.2) }
+    record { value = e; fair_deck = rw e (fair_deck c.args.l.0 _ c.requires.0 c.requires.1) }

@@ -99,7 +99,7 @@ fn bare_deck(l: Span) -> Deck
     }
 }
 
-// The deck of the first `n` houses, built from the foremost to the aftmost.
+// The deck of the first `n` houses, built from the foremost to the aftmost. No slice: 01 has the eight houses and their count passed whole to the steps.
 pub fn deck_of(l: Length, hs: [House; 8], n: usize) -> Deck
     requires { (n ≤ 8) × GoodHouses l.mm (take n hs) }
     ensures value { result ≡ deck_of l.mm (take n hs) }

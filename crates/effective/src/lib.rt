@@ -87,7 +87,7 @@ fn limited_length(p: Placed) -> Effective
     um
 }
 
-// The ratio of a house's height to its standard height, 1 where it is no lower.
+// The ratio of a house's height to its standard height, 1 where it is no lower. L and the house come apart: this contract asks no bound of L, as Placed does.
 #[tactic(auto, using(crate::proofs::Unrounded::ratio_exact, crate::proofs::Unrounded::fair_ratio), unfolding(crate::specs::Unrounded::lesser_of))]
 pub fn height_ratio(l: Span, h: House) -> Ratio
     requires { h.height.0 ≤ 8191 }

@@ -13,7 +13,7 @@ ghost use Rattle.houses.specs.Amidships.{covers_amidships};
 use ship::House;
 use units::{Length, Span};
 
-// A house on the deck of a ship of length L.
+// A house on the deck of a ship of length L. That it is good (GoodHouse) stands in contracts: `part`, `is_forecastle` and `effective_of` don't ask it.
 #[derive(Clone, Copy)]
 pub struct Placed {
     pub l: Length,

@@ -37,7 +37,7 @@ pub fn of_none(l: Span) -> Summed
     }
 }
 
-// A sum with one more effective length over the same denominator.
+// A sum with one more effective length over the same denominator. FairLength stands in contracts: `unrounded_of` gives an Unrounded for any house, fair or not.
 fn plus(e: Unrounded, s: Unrounded) -> Unrounded
     requires { FairLength e × FairSum s × (e.bottom ≡ s.bottom) }
     ensures { result ≡ more e.top s }

@@ -54,6 +54,7 @@ impl Vessel {
     }
 
     // What is added: the line, made greater for short B ships (29) and fullness (30), then what depth adds (31), then sheer where it is lacking (38).
+    // The line's bound stands in three contracts: a struct would have to be made of each line, `Line { um: hull.basis.line }`, only to be taken apart here.
     #[tactic(auto, unfolding(crate::specs::Parts::added_on))]
     fn added(self, line: Freeboard, e: Effective, lacking: Freeboard) -> Freeboard
         requires { (line.0 ≤ 6400000) × (lacking.0 ≤ 9000000) }

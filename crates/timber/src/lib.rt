@@ -46,33 +46,46 @@ pub fn level_of(added: Freeboard, taken: Freeboard) -> Level
     Level { up, down }
 }
 
-// LW, which on a reduced ship is level with its W where it would be greater. Both are counted from `down` below zero, so that neither is negative.
-#[tactic(auto, unfolding(crate::specs::Timber::timber_winter, whole::specs::Pick::pick))]
-fn winter_of(reduced: bool, w: u64, s: Level, d: u64) -> i64
-    requires { (w ≤ 2 ^ 30) × (s.up ≤ 2 ^ 31) × (s.down ≤ 2 ^ 31) × (d ≤ 2 ^ 32) }
-    ensures { result ≡ timber_winter reduced w (signed s) d }
-{
-    let top = s.up + whole::div_up(d, 36);
-    if reduced {
-        return whole::minus(top.min(w + s.down), s.down);
-    }
-    whole::minus(top, s.down)
+// A ship with its timber deck cargo: whether it is reduced, its ordinary W, and LS.
+#[derive(Clone, Copy)]
+struct Laden {
+    reduced: bool,
+    w: u64,
+    s: Level,
+    ghost in_range: { (w ≤ 2 ^ 30) × (s.up ≤ 2 ^ 31) × (s.down ≤ 2 ^ 31) },
 }
 
-// All six, from LS and the timber summer draught d.
-fn six_marks(reduced: bool, w: u64, wna: u64, s: Level, d: u64) -> TimberMarks
-    requires { (w ≤ 2 ^ 30) × (s.up ≤ 2 ^ 31) × (s.down ≤ 2 ^ 31) × (d ≤ 2 ^ 32) }
-    ensures { result ≡ timber_from reduced w wna (signed s) d }
-{
-    let once = s.down + d / 48;
-    let lt = whole::minus(s.up, once);
-    TimberMarks {
-        ls: whole::minus(s.up, s.down),
-        lt,
-        lw: winter_of(reduced, w, s, d),
-        lwna: wna,
-        lf: lt,
-        ltf: whole::minus(s.up, once + d / 48),
+impl Laden {
+    // LW, which on a reduced ship is level with its W where it would be greater. Both are counted from `down` below zero, so that neither is negative.
+    #[tactic(auto, unfolding(crate::specs::Timber::timber_winter, whole::specs::Pick::pick))]
+    fn winter_of(self, d: u64) -> i64
+        requires { d ≤ 2 ^ 32 }
+        ensures { result ≡ timber_winter self.reduced self.w (signed self.s) d }
+    {
+        let s = self.s;
+        let top = s.up + whole::div_up(d, 36);
+        if self.reduced {
+            return whole::minus(top.min(self.w + s.down), s.down);
+        }
+        whole::minus(top, s.down)
+    }
+
+    // All six, from the ordinary WNA and the timber summer draught d.
+    fn six_marks(self, wna: u64, d: u64) -> TimberMarks
+        requires { d ≤ 2 ^ 32 }
+        ensures { result ≡ timber_from self.reduced self.w wna (signed self.s) d }
+    {
+        let s = self.s;
+        let once = s.down + d / 48;
+        let lt = whole::minus(s.up, once);
+        TimberMarks {
+            ls: whole::minus(s.up, s.down),
+            lt,
+            lw: self.winter_of(d),
+            lwna: wna,
+            lf: lt,
+            ltf: whole::minus(s.up, once + d / 48),
+        }
     }
 }
 
@@ -102,5 +115,5 @@ pub fn follow(reduced: bool, w: u64, wna: u64, depth: Span, s: Level) -> TimberM
     if keel <= s.up {
         return none();
     }
-    six_marks(reduced, w, wna, s, keel - s.up)
+    Laden { reduced, w, s }.six_marks(wna, keel - s.up)
 }

@@ -1,6 +1,6 @@
 use native.Mathlib.Omega.{arith}
 use Rattle.whole.proofs.Divide.{ceil_lt}
-use Rattle.timber.proofs.winter_of.Goals as goal
+use Rattle.timber.proofs.Laden.winter_of.Goals as goal
 
 pub overflow_add-top : goal.overflow_add-top
 overflow_add-top c = omega (arith, ceil_lt)

@@ -1,7 +1,7 @@
 use borrow.Author.Rules.{rules}
 use Rattle.whole.proofs.Integers.{minus_less}
 use Rattle.timber.specs.Timber.{timber_from}
-use Rattle.timber.proofs.six_marks.Goals as goal
+use Rattle.timber.proofs.Laden.six_marks.Goals as goal
 
 pub returns : goal.returns
 unfolding timber_from

@@ -12,7 +12,8 @@ ghost use Rattle.answers.specs.Answers.{from_sheet, from_reply, from_reading, fr
 
 use answers::{MarksAnswer, PoopAnswer, ReadAnswer, WriteAnswer};
 use flat::FlatShip;
-use timber::Answer;
+use ship::Ship;
+use ship::refusal::Paper;
 
 // The six marks of a ship record, and six timber marks where it asks for them: refusals 1 to 13, 18 and 22 to 24.
 #[unsafe(no_mangle)]
@@ -20,11 +21,9 @@ pub extern "C" fn loadline_marks(bytes: &[u8]) -> MarksAnswer
     ensures equation { result ≡ from_sheet (answer_in bytes.now) }
     ensures bounded { Bounded result (ship_in bytes.now) }
 {
-    let a = marks::of_record(bytes);
-    match a {
-        Answer::Given(m) => answers::marked(m, timber::none()),
-        Answer::WithTimber(m, t) => answers::marked(m, t),
-        Answer::Refused(r) => answers::unmarked(r),
+    match marks::of_record(bytes) {
+        Ok(g) => answers::marked(g),
+        Err(r) => MarksAnswer::from(r),
     }
 }
 
@@ -33,35 +32,38 @@ pub extern "C" fn loadline_marks(bytes: &[u8]) -> MarksAnswer
 pub extern "C" fn loadline_shortest_poop(bytes: &[u8], height: u64, wish: u64) -> PoopAnswer
     ensures { result ≡ from_reply (reply_in bytes.now height wish) }
 {
-    let a = poop::of_record(bytes, height, wish);
-    answers::poop_of(a)
+    PoopAnswer::from(poop::of_record(bytes, height, wish))
 }
 
 // A ship record as a ship: refusals 1 to 11, 18 and 22 to 24.
+#[tactic(auto, unfolding(answers::specs::Answers::from_reading))]
 #[unsafe(no_mangle)]
 pub extern "C" fn loadline_read(bytes: &[u8]) -> ReadAnswer
     ensures { result ≡ from_reading (reading_in bytes.now) }
 {
-    let a = reader::read(bytes);
-    let x = a.ship;
-    let v = a.verdict;
-    let ship = flat::of_ship(x);
-    ReadAnswer {
-        verdict: answers::paper_of(v),
-        ship,
+    match reader::read(bytes) {
+        Ok(x) => ReadAnswer {
+            verdict: Paper::from(Ok(())),
+            ship: flat::of_ship(x),
+        },
+        Err(r) => ReadAnswer {
+            verdict: Paper::from(r),
+            ship: flat::of_ship(ship::no_ship()),
+        },
     }
 }
 
 // Writes a ship's record at the start of the buffer: refusals 3, 24, 4, 7 to 11, 18, 22, 23 and 17.
+#[tactic(auto, unfolding(answers::specs::Answers::from_verdict))]
 #[unsafe(no_mangle)]
 pub extern "C" fn loadline_write(buffer: &mut [u8], ship: FlatShip) -> WriteAnswer
     ensures value { result ≡ from_verdict (writing_of (length buffer.old) (ship_from ship)) (ship_from ship) }
     ensures buffer_after { buffer.new ≡ written (writing_of (length buffer.old) (ship_from ship)) (ship_from ship) buffer.old }
 {
-    let x = flat::to_ship(ship);
+    let x = Ship::from(ship);
     let v = writer::write(buffer, x);
     WriteAnswer {
-        verdict: answers::paper_of(v),
+        verdict: Paper::from(v),
         bytes: answers::length_of(v, x),
     }
 }

@@ -28,55 +28,65 @@ pub struct Hull {
     pub bow: Height,
 }
 
-// L of a ship that the reader accepts.
-pub fn length_of(x: Ship) -> Length
-    requires { Sound x }
-    ensures { result.mm ≡ x.length.0 }
-{
-    Length { mm: x.length.0 }
+// A ship that the reader accepts.
+#[derive(Clone, Copy)]
+pub struct Accepted {
+    pub ship: Ship,
+    pub ghost sound: { Sound ship },
 }
 
-// The hull of a ship that the reader accepts.
-#[tactic(auto, unfolding(crate::specs::Parts::hull_of))]
-pub fn hull_of(x: Ship) -> Hull
-    requires { Sound x }
-    ensures value { result ≡ hull_of x }
-    ensures fair_hull { FairHull result }
-{
-    let l = length_of(x);
-    let block = fullness::counted_block(x.block);
-    Hull {
-        b: x.kind != kind::A,
-        length: x.length,
-        block,
-        basis: basis::basis_of(x.kind, l),
-        depth: x.depth,
-        deep: depth::addition(l, x.depth),
-        mean: sheer::mean_sheer(l, x.sheer),
-        bow: bow::asked(l, x.moulded, block, x.waterplane, x.sheer[4], x.sheer[5]),
+impl Accepted {
+    // L.
+    pub fn length(self) -> Length
+        ensures { result.mm ≡ self.ship.length.0 }
+    {
+        Length {
+            mm: self.ship.length.0,
+        }
     }
-}
 
-// The line that timber freeboards begin from (45(6)).
-pub fn timber_line(x: Ship) -> Freeboard
-    requires { Sound x }
-    ensures result_value { result.0 ≡ (timber_basis x).line }
-    ensures result_bound { result.0 ≤ 6400000 }
-{
-    basis::basis_of(kind::for_timber(x.kind), length_of(x)).line
-}
+    // The hull.
+    #[tactic(auto, unfolding(crate::specs::Parts::hull_of))]
+    pub fn hull(self) -> Hull
+        ensures value { result ≡ hull_of self.ship }
+        ensures fair_hull { FairHull result }
+    {
+        let x = self.ship;
+        let l = self.length();
+        let block = fullness::counted_block(x.block);
+        Hull {
+            b: x.kind != kind::A,
+            length: x.length,
+            block,
+            basis: basis::basis_of(x.kind, l),
+            depth: x.depth,
+            deep: depth::addition(l, x.depth),
+            mean: sheer::mean_sheer(l, x.sheer),
+            bow: bow::asked(l, x.moulded, block, x.waterplane, x.sheer[4], x.sheer[5]),
+        }
+    }
 
-// What the other marks need of a ship. The floor is the least freeboard that its type decides.
-#[tactic(auto, unfolding(steps::specs::Steps::particulars_of))]
-pub fn particulars_of(x: Ship, floor: u64) -> Particulars
-    requires { floor ≡ (basis x).floor }
-    ensures { result ≡ particulars_of x }
-{
-    Particulars {
-        floor,
-        depth: x.depth,
-        length: x.length,
-        displacement: x.displacement,
-        immersion: x.immersion,
+    // The line that timber freeboards begin from (45(6)).
+    pub fn timber_line(self) -> Freeboard
+        ensures result_value { result.0 ≡ (timber_basis self.ship).line }
+        ensures result_bound { result.0 ≤ 6400000 }
+    {
+        basis::basis_of(kind::for_timber(self.ship.kind), self.length()).line
+    }
+
+    // What the other marks need of the ship. The floor is the least freeboard that its type decides.
+    #[tactic(auto, unfolding(steps::specs::Steps::particulars_of))]
+    pub fn particulars(self, floor: u64) -> Particulars
+        requires { floor ≡ (basis self.ship).floor }
+        ensures { result ≡ particulars_of self.ship }
+    {
+        let x = self.ship;
+        Particulars {
+            floor,
+            depth: x.depth,
+            length: x.length,
+            displacement: x.displacement,
+            immersion: x.immersion,
+        }
     }
 }

@@ -2,9 +2,9 @@
 #![tactic(auto)]
 
 ghost use Rattle.std.specs.Prelude.{◌≡◌};
-ghost use Rattle.steps.specs.Steps.{Sound};
 ghost use Rattle.question.specs.Question.{reply, no_room, reply_for, reply_in};
 
+use hull::Accepted;
 use ship::Ship;
 use ship::refusal::Refusal;
 use units::Span;
@@ -18,14 +18,13 @@ fn no_room(x: Ship) -> bool
 
 // The question on a ship that the reader accepts: refusals 14 to 16.
 #[tactic(auto, unfolding(question::specs::Question::reply_for, ship::specs::Refusals::first, whole::specs::Pick::pick))]
-pub fn of_ship(x: Ship, height: u64, wish: u64) -> Result<u64, Refusal>
-    requires { Sound x }
-    ensures { reply result ≡ reply_for x height wish }
+pub fn of_ship(x: Accepted, height: u64, wish: u64) -> Result<u64, Refusal>
+    ensures { reply result ≡ reply_for x.ship height wish }
 {
     if height < 1 || 8191 < height || wish < 50 || 60000 < wish {
         return Err(Refusal::QuestionRange);
     }
-    if no_room(x) {
+    if no_room(x.ship) {
         return Err(Refusal::NoRoomForPoop);
     }
     question::shortest(x, Span(height), wish)
@@ -35,5 +34,6 @@ pub fn of_ship(x: Ship, height: u64, wish: u64) -> Result<u64, Refusal>
 pub fn of_record(s: &[u8], height: u64, wish: u64) -> Result<u64, Refusal>
     ensures { reply result ≡ reply_in s.now height wish }
 {
-    of_ship(reader::read(s)?, height, wish)
+    let ship = reader::read(s)?;
+    of_ship(Accepted { ship }, height, wish)
 }

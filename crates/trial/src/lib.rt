@@ -2,13 +2,12 @@
 #![tactic(auto)]
 
 ghost use Rattle.std.specs.Prelude.{◌≡◌, ◌*◌, ◌≤◌, ◌<◌};
-ghost use Rattle.steps.specs.Steps.{Sound};
 ghost use Rattle.trial.specs.Poop.{poop_house};
 ghost use Rattle.trial.specs.Standing.{room_of, standing_of, deck_for, marked_on, fits_on, Fair};
 
 use deck::Deck;
 use houses::Placed;
-use hull::Hull;
+use hull::{Accepted, Hull};
 use mark::Particulars;
 use ship::{House, Ship};
 use summer::Vessel;
@@ -57,18 +56,18 @@ fn poop_house(height: Span, k: u64) -> House
 
 // What no length changes, worked for a ship, a height of poop and a wish.
 #[tactic(auto, unfolding(crate::specs::Standing::standing_of, hull::specs::Parts::hull_of, crate::specs::Poop::poop_house))]
-pub fn standing_of(x: Ship, height: Span, wish: u64) -> Standing
-    requires { Sound x × (x.n < 8) × (1 ≤ height.0) × (height.0 ≤ 8191) }
-    ensures value { result ≡ standing_of x height.0 wish }
+pub fn standing_of(x: Accepted, height: Span, wish: u64) -> Standing
+    requires { (x.ship.n < 8) × (1 ≤ height.0) × (height.0 ≤ 8191) }
+    ensures value { result ≡ standing_of x.ship height.0 wish }
     ensures fair { Fair result }
 {
-    let hull = hull::hull_of(x);
+    let hull = x.hull();
     Standing {
         hull,
-        deck: deck::deck_of(hull::length_of(x), x.houses, x.n),
-        ratio: effective::height_ratio(x.length, poop_house(height, 0)),
-        room: room_of(x),
-        particulars: hull::particulars_of(x, hull.basis.floor),
+        deck: deck::deck_of(x.length(), x.ship.houses, x.ship.n),
+        ratio: effective::height_ratio(x.ship.length, poop_house(height, 0)),
+        room: room_of(x.ship),
+        particulars: x.particulars(hull.basis.floor),
         height,
         wish,
     }

@@ -15,5 +15,5 @@ pub returns-clause-fair : goal.returns-clause-fair
 returns-clause-fair c =
     let a = c.args in
     let p = c.requires in
-    let eight : length a.x.houses ≡ 8 = search rules in
-    rw (returns-clause-value c) (fair_standing a.x p.0 p.1 eight a.height.0 a.wish p.2 p.3 (rw c.hull_of-hull.ensures.value at c.hull_of-hull.ensures.fair_hull))
+    let eight : length a.x.ship.houses ≡ 8 = search rules in
+    rw (returns-clause-value c) (fair_standing a.x.ship a.x.sound p.0 eight a.height.0 a.wish p.1 p.2 (rw c.hull-hull.ensures.value at c.hull-hull.ensures.fair_hull))

@@ -73,20 +73,19 @@ impl Accepted {
     {
         basis::basis_of(kind::for_timber(self.ship.kind), self.length()).line
     }
+}
 
-    // What the other marks need of the ship. The floor is the least freeboard that its type decides.
-    #[tactic(auto, unfolding(steps::specs::Steps::particulars_of))]
-    pub fn particulars(self, floor: u64) -> Particulars
-        requires { floor ≡ (basis self.ship).floor }
-        ensures { result ≡ particulars_of self.ship }
-    {
-        let x = self.ship;
-        Particulars {
-            floor,
-            depth: x.depth,
-            length: x.length,
-            displacement: x.displacement,
-            immersion: x.immersion,
-        }
+// What the other marks need of a ship. The floor is the least freeboard that its type decides.
+#[tactic(auto, unfolding(steps::specs::Steps::particulars_of))]
+pub fn particulars_of(x: Ship, floor: u64) -> Particulars
+    requires { floor ≡ (basis x).floor }
+    ensures { result ≡ particulars_of x }
+{
+    Particulars {
+        floor,
+        depth: x.depth,
+        length: x.length,
+        displacement: x.displacement,
+        immersion: x.immersion,
     }
 }

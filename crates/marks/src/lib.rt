@@ -34,7 +34,10 @@ pub fn of_ship(x: Accepted) -> Result<Given, Refusal>
     let hull = x.hull();
     let deck = deck::deck_of(x.length(), x.ship.houses, x.ship.n);
     let vessel = Vessel { hull, deck };
-    let ordinary = mark::follow(x.particulars(hull.basis.floor), vessel.summer())?;
+    let ordinary = mark::follow(
+        hull::particulars_of(x.ship, hull.basis.floor),
+        vessel.summer(),
+    )?;
     let timber = x.ship.timber.then(|| timber_marks(x, vessel, ordinary));
     Ok(Given { ordinary, timber })
 }

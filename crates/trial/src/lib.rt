@@ -67,7 +67,7 @@ pub fn standing_of(x: Accepted, height: Span, wish: u64) -> Standing
         deck: deck::deck_of(x.length(), x.ship.houses, x.ship.n),
         ratio: effective::height_ratio(x.ship.length, poop_house(height, 0)),
         room: room_of(x.ship),
-        particulars: x.particulars(hull.basis.floor),
+        particulars: hull::particulars_of(x.ship, hull.basis.floor),
         height,
         wish,
     }

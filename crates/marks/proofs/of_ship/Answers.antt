@@ -15,29 +15,29 @@ pub invariant_of-vessel : goal.invariant_of-vessel
 unfolding hull_of
 invariant_of-vessel c = record { fair_hull = c.hull-hull.ensures.fair_hull; fair_deck = rw (c.hull-hull.ensures.value, ← c.length.ensures) c.deck_of-deck.ensures.fair_deck }
 
-pub particulars-requires : goal.particulars-requires
+pub particulars_of-requires : goal.particulars_of-requires
 unfolding hull_of
-particulars-requires c = ap (λ (h : Hull). h.basis.floor) c.hull-hull.ensures.value
+particulars_of-requires c = ap (λ (h : Hull). h.basis.floor) c.hull-hull.ensures.value
 
 pub follow-requires : goal.follow-requires
-follow-requires c = rw c.particulars.ensures (fair_particulars c.args.x.ship c.args.x.sound)
+follow-requires c = rw c.particulars_of.ensures (fair_particulars c.args.x.ship c.args.x.sound)
 
 pub returns-in_err-ordinary-clause-equation : goal.returns-in_err-ordinary-clause-equation
-returns-in_err-ordinary-clause-equation c = let e = sheet_parts c.args.x.ship c.args.x.sound _ _ _ _ c.particulars.ensures c.hull-hull.ensures.value (rw c.length.ensures at c.deck_of-deck.ensures.value) c.summer.ensures in
+returns-in_err-ordinary-clause-equation c = let e = sheet_parts c.args.x.ship c.args.x.sound _ _ _ _ c.particulars_of.ensures c.hull-hull.ensures.value (rw c.length.ensures at c.deck_of-deck.ensures.value) c.summer.ensures in
     let p = err_from_is_err_and c.from_residual.result c.from_residual.ensures.1 in
     rw (p.1, p.2) (with_refusal c.args.x.ship c.in_err-ordinary.field-0.0 (c.in_err-ordinary.ensures ∙ e))
 
 pub then-timber-requires : goal.then-timber-requires
 then-timber-requires c =
     let x = c.args.x.ship in
-    let e = c.in_ok-ordinary.ensures ∙ sheet_parts x c.args.x.sound _ _ _ _ c.particulars.ensures c.hull-hull.ensures.value (rw c.length.ensures at c.deck_of-deck.ensures.value) c.summer.ensures in
+    let e = c.in_ok-ordinary.ensures ∙ sheet_parts x c.args.x.sound _ _ _ _ c.particulars_of.ensures c.hull-hull.ensures.value (rw c.length.ensures at c.deck_of-deck.ensures.value) c.summer.ensures in
     let w = winter_small x c.args.x.sound c.in_ok-ordinary.ordinary e in
     λ t. search rules
 
 pub returns-clause-equation : goal.returns-clause-equation
 returns-clause-equation c =
     let x = c.args.x.ship in
-    let e = sheet_parts x c.args.x.sound _ _ _ _ c.particulars.ensures c.hull-hull.ensures.value (rw c.length.ensures at c.deck_of-deck.ensures.value) c.summer.ensures in
+    let e = sheet_parts x c.args.x.sound _ _ _ _ c.particulars_of.ensures c.hull-hull.ensures.value (rw c.length.ensures at c.deck_of-deck.ensures.value) c.summer.ensures in
     with_given x c.in_ok-ordinary.ordinary c.then-timber.result (c.in_ok-ordinary.ensures ∙ e) c.then-timber.ensures.variant (IfSome_then c.then-timber.result c.then-timber.ensures.some (λ u k. search rules))
 
 pub returns-clause-bounded : goal.returns-clause-bounded

@@ -82,6 +82,7 @@ pub fn marked(g: Given) -> MarksAnswer
     }
 }
 
+// A refusal, and no marks.
 impl From<Refusal> for MarksAnswer {
     ghost from_gives = { λ r a. a ≡ from_sheet (sheet (Err r)) };
 

@@ -1,3 +1,4 @@
+pub mod Computed
 pub mod Bound
 pub mod Order
 pub mod OneToOne

@@ -1,4 +1,4 @@
-// The answers of the calls for C: structs of 64-bit numbers, by value. Each begins with the verdict's number, place and overlap; beside a refusal all else is 0.
+// The answers of the calls for C: structs of 64-bit numbers, by value. Each begins with the verdict's number, place and overlap; beside a refusal all else is 0, for C has no Result.
 #![tactic(auto)]
 
 ghost use Rattle.std.specs.Prelude.{◌≡◌, ◌^◌, ◌≤◌, ◌<◌, Ok, Err, IfSome, eqb};

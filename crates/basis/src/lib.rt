@@ -56,7 +56,7 @@ fn line_of(kind: u64, l: Length) -> Freeboard
     }
 }
 
-// What a type decides for a ship of length `l`.
+// What a type, a number as in kind.rt, decides for a ship of length `l`.
 #[tactic(auto, using(crate::proofs::Laws::floor_of), unfolding(crate::specs::Basis::basis_of))]
 pub fn basis_of(kind: u64, l: Length) -> Basis
     requires le_l { 24000 ≤ l.mm }

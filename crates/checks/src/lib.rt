@@ -55,7 +55,7 @@ fn in_order(l: Length, houses: &[House]) -> Result<(), Refusal>
     }
 }
 
-// Checks 9, 23, 10 and 11 or 18 on the first `n` houses, each over all of them before the next.
+// Checks 9, 23, 10 and 11 or 18 on the first `n` houses, each over all of them before the next. Array and count come whole, as 01 has them.
 #[tactic(auto, unfolding(whole::specs::Pick::pick, ship::specs::Refusals::first))]
 pub fn of_houses(l: Length, houses: [House; 8], n: usize) -> Result<(), Refusal>
     requires { n ≤ 8 }

@@ -10,7 +10,7 @@ use std::io::{Print, Read};
 use std::rt::{Env, Files};
 use std::{fs, str};
 
-// How many arguments the program was started with, its own name among them.
+// How many arguments the program was started with, its own name among them: they come by number, so programs count them.
 pub fn arg_count(rt: &impl Env) -> usize {
     (0..usize::MAX)
         .find(|i| matches!(rt.arg(*i, &mut []), Err(FillError::NotPresent)))

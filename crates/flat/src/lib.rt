@@ -7,7 +7,8 @@ ghost use Rattle.flat.specs.Flat.{sheer_mm, house_of, ship_of, ordinate_from, ho
 use ship::{House, Ship};
 use units::{LIFT, Ordinate, Span};
 
-// Stations in mm forward of the after perpendicular, below zero abaft it. Each flag is 0 for no, and any other number for yes.
+// Stations in mm forward of the after perpendicular, below zero abaft it. Each flag is 0 for no, and any other number for yes, for C
+// may hold any.
 #[repr(C)]
 #[derive(Clone, Copy)]
 pub struct FlatHouse {

@@ -1,4 +1,4 @@
-// Checks 9, 23, 10 and 11 or 18 on one house.
+// Checks 9, 23, 10 and 11 or 18 on one house. L and the house come as two, as `breaks` takes them; `Placed` of `houses`, beside this crate, is for the steps.
 #![tactic(auto)]
 
 ghost use Rattle.std.specs.Prelude.{true, ◌||◌, ◌≡◌, ◌≤◌};

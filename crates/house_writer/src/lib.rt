@@ -25,7 +25,8 @@ fn put_house(out: &mut [u8], h: House)
     bits::put_two(out, HOUSE_WORD, word * range::HOUSE_SPARE, breadths);
 }
 
-// Writes the first `n` houses, each in its own bytes: from 27 + 8k on, and from version 3 on from 27 + 12k on.
+// Writes the first `n` houses, each in its own bytes: from 27 + 8k on, and from version 3 on from 27 + 12k on. Array and count come
+// whole, as 01 has them.
 pub fn put_houses(buf: &mut [u8], version: u64, houses: [House; 8], n: usize)
     requires n_bound { (n ≤ 8) × (record_length version n ≤ length buf.old) }
     requires houses_fit { HousesFit version (take n houses) }

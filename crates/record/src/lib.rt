@@ -39,6 +39,7 @@ pub const MOST_HOUSES: u64 = 8;
 #[derive(Clone, Copy)]
 pub struct Head {
     pub version: u64,
+    // Whatever the bits say: checks 3 and 4 have to see it.
     pub kind: u64,
     pub count: u64,
     pub timber: bool,

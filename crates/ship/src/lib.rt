@@ -29,6 +29,7 @@ pub struct House {
 pub struct Ship {
     // Its type, one of those in kind.rt.
     pub kind: u64,
+    // Any number until check 4 has seen it, as the record and C give it: a type that holds at most 8 could not be refused by 4.
     pub n: usize,
     // Timber freeboards are asked for.
     pub timber: bool,

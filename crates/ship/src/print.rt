@@ -1,4 +1,4 @@
-// Ships and refusals in print, in the papers' own terms and on one line.
+// Ships and refusals in print, in the papers' own terms and on one line. What a refusal prints is stated; a ship's text is run and compared.
 ghost use Rattle.std.specs.Prelude.{Some};
 ghost use Rattle.ship.specs.Printed.{refusal_text};
 

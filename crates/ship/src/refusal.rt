@@ -32,7 +32,7 @@ pub enum Refusal {
 }
 
 // What the papers say of a refusal. The place is the field, counted from 1, or the house, counted from 0, and 0 where there is none; the overlap is in
-// millimetres, 0 where no houses overlap. The number 0 refuses nothing.
+// millimetres, 0 where no houses overlap. The number 0 refuses nothing. Numbers, for C.
 #[repr(C)]
 #[derive(Clone, Copy)]
 pub struct Paper {

@@ -5,7 +5,7 @@ use ship::refusal::Refusal;
 use std::fmt;
 use std::io::Print;
 
-// Bytes, two hexadecimal digits each.
+// Bytes, two hexadecimal digits each: std prints no slice so.
 #[derive(Clone, Copy)]
 pub struct Hex<'a>(pub &'a [u8]);
 

@@ -13,7 +13,7 @@ use ship::{House, Ship};
 use summer::Vessel;
 use units::{Length, Ratio, Span};
 
-// What no length of poop changes: the hull, the deck without a poop, the poop's ratio of heights, how far it may reach, what the marks need besides, and what is
+// What no length of poop changes, fair only where contracts say so, for `standing_of` gives one of any ship: the hull, the deck without a poop, the poop's ratio of heights, how far it may reach, what the marks need besides, and what is
 // asked.
 #[derive(Clone, Copy)]
 pub struct Standing {

@@ -22,7 +22,8 @@ pub const AP: u64 = 1048576;
 #[derive(Clone, Copy, PartialEq, Eq, PartialOrd, Ord)]
 pub struct Span(pub u64);
 
-// The ship's length L, from the after perpendicular to the fore one: at most 365 m wherever a regulation works with it.
+// The ship's length L, from the after perpendicular to the fore one: at most 365 m wherever a regulation works with it. Its least, 24 m, stays in the contracts
+// that need it: the others take any L up to this, and may not ask more.
 #[derive(Clone, Copy)]
 pub struct Length {
     pub mm: u64,

@@ -1,4 +1,4 @@
-// Divisions rounded up and down, and differences with their sign.
+// Divisions rounded up and down, and differences with their sign: each is two operations of std under one bound, in one word of the contracts.
 #![tactic(auto)]
 
 ghost use Rattle.std.specs.Prelude.{◌≡◌, ◌+◌, ◌*◌, ◌/◌, ◌^◌, ◌≤◌, ◌<◌, pos, ◌-ℤ◌};

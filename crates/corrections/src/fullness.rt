@@ -13,7 +13,7 @@ pub fn counted_block(cb: u64) -> u64
     cb.min(10000)
 }
 
-// The sum so far, for a Cb that counts.
+// The sum so far, for a Cb that counts. Its bound stands in three contracts: a type for it would be made in `hull`, to be read here and in 39 alone.
 #[tactic(auto, using(crate::proofs::Fullness30::fullness_none, crate::proofs::Fullness30::fullness_quotient, crate::proofs::Fullness30::fullness_most))]
 pub fn corrected(cb: u64, sum: Freeboard) -> Freeboard
     requires { (cb ≤ 12000) × (sum.0 ≤ 2 ^ 32) }

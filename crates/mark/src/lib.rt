@@ -43,7 +43,7 @@ pub fn summer(floor: u64, added: Freeboard, taken: Freeboard, bow: Freeboard) ->
     floor.max(units::mm_up(freeboard))
 }
 
-// T, from the summer mark and the summer draught d.
+// T, from the summer mark and the summer draught d, which is worked once, in `follow`, and handed on.
 #[tactic(auto, unfolding(crate::specs::Others::tropical))]
 fn tropical_of(floor: u64, s: u64, d: u64) -> u64
     ensures value { result ≡ tropical floor s d }

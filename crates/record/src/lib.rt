@@ -90,7 +90,7 @@ pub fn house_size(version: u64) -> usize
     }
 }
 
-// How many bytes a record of `n` houses has in a version.
+// How many bytes a record of `n` houses has in a version. The two come as two: a writer has no head yet, which would hold both.
 pub fn record_length(version: u64, n: usize) -> usize
     requires { n ≤ 8 }
     ensures { (result ≡ record_length version n) × (result ≤ 123) }

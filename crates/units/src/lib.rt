@@ -18,7 +18,7 @@ pub struct Station(pub u64);
 // The station of the after perpendicular: 0 mm.
 pub const AP: u64 = 1048576;
 
-// A length or a height, in millimetres.
+// A length or a height, in millimetres: any, so the bound of a depth or a height stands in the contracts that need it.
 #[derive(Clone, Copy, PartialEq, Eq, PartialOrd, Ord)]
 pub struct Span(pub u64);
 

@@ -1,4 +1,5 @@
 // Divisions rounded up and down, and differences with their sign: each is two operations of std under one bound, in one word of the contracts.
+// That a divisor is above 0 stands in contracts: a NonZero would have to be made of each constant.
 #![tactic(auto)]
 
 ghost use Rattle.std.specs.Prelude.{◌≡◌, ◌+◌, ◌*◌, ◌/◌, ◌^◌, ◌≤◌, ◌<◌, pos, ◌-ℤ◌};

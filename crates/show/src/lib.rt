@@ -1,6 +1,9 @@
 // What the programs print besides the Displays of ships, marks and refusals. What is printed is run and compared.
 #![tactic(auto)]
 
+ghost use Rattle.std.specs.Prelude.{Some};
+ghost use Rattle.show.specs.Printed.{poop_text};
+
 use ship::refusal::Refusal;
 use std::fmt;
 use std::io::Print;
@@ -23,6 +26,8 @@ impl fmt::Display for Hex<'_> {
 pub struct Poop(pub u64);
 
 impl fmt::Display for Poop {
+    ghost output = { λ p. Some (poop_text p.0) };
+
     fn fmt<W: fmt::Write>(&self, f: &mut fmt::Formatter<W>) -> fmt::Result {
         write!(f, "poop {}", self.0)
     }

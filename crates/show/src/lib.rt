@@ -2,7 +2,7 @@
 #![tactic(auto)]
 
 ghost use Rattle.std.specs.Prelude.{Some};
-ghost use Rattle.show.specs.Printed.{poop_text};
+ghost use Rattle.show.specs.Printed.{bytes_text, poop_text};
 
 use ship::refusal::Refusal;
 use std::fmt;
@@ -13,6 +13,8 @@ use std::io::Print;
 pub struct Hex<'a>(pub &'a [u8]);
 
 impl fmt::Display for Hex<'_> {
+    ghost output = { λ h. Some (bytes_text h.0.now) };
+
     fn fmt<W: fmt::Write>(&self, f: &mut fmt::Formatter<W>) -> fmt::Result {
         for b in self.0 {
             write!(f, "{b:02x}")?;

@@ -83,6 +83,6 @@ pub fn of_ship(x: Ship) -> Result<(), Refusal>
     ensures { paper result ≡ first (ship_lines x) }
 {
     of_fields(x)?;
-    let l = Length { mm: x.length.0 };
+    let l = Length::of(x.length);
     of_houses(l, x.houses, x.n)
 }

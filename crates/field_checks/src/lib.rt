@@ -89,6 +89,6 @@ pub fn of_fields(x: Ship) -> Result<(), Refusal>
     }
     let unfit = unfit_length(x.kind, x.length);
     let half = (x.displacement == 0) != (x.immersion == 0);
-    refusal::line(unfit, Refusal::LengthForType)?;
-    refusal::line(half, Refusal::HalfCertified)
+    let last = refusal::line(half, Refusal::HalfCertified, Ok(()));
+    refusal::line(unfit, Refusal::LengthForType, last)
 }

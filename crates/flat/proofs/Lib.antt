@@ -1,3 +1,4 @@
+pub mod Filled
 pub mod Served
 pub mod Near
 pub mod Kept

@@ -105,12 +105,34 @@ impl From<FlatHouse> for House {
     }
 }
 
+// Filled in place, for speed: an array's `map` moves each element several times on its way.
+fn to_sheer(mm: [i64; 6]) -> [Ordinate; 6]
+    ensures { result ≡ map ordinate_from mm }
+{
+    let mut sheer = [Ordinate(LIFT); 6];
+    for (k, v) in mm.iter().enumerate() {
+        sheer[k] = units::ordinate_of_mm(*v);
+    }
+    sheer
+}
+
+fn to_houses(flat: [FlatHouse; 8]) -> [House; 8]
+    ensures { result ≡ map house_from flat }
+{
+    let mut houses = [ship::no_house(); 8];
+    for (k, h) in flat.iter().enumerate() {
+        houses[k] = House::from(*h);
+    }
+    houses
+}
+
 impl From<FlatShip> for Ship {
     ghost from_gives = { λ flat x. x ≡ ship_from flat };
 
+    #[tactic(auto, unfolding(crate::specs::Flat::ship_from))]
     fn from(x: FlatShip) -> Ship {
-        let sheer = x.sheer.map(units::ordinate_of_mm);
-        let houses = x.houses.map(House::from);
+        let sheer = to_sheer(x.sheer);
+        let houses = to_houses(x.houses);
         Ship {
             kind: x.kind,
             n: x.n as usize,

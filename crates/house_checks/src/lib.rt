@@ -20,7 +20,7 @@ const WIDEST: u64 = 65535;
 
 // Check 9: the house has a length, some of it lies forward of the after perpendicular and some abaft the fore one, it stands out no farther than it
 // may, and its height is in its range. A length that would be negative reads as 0.
-#[tactic(auto, using(std::proofs::lemmas::Bool::Decides::nat_tests))]
+#[tactic(auto, using(crate::proofs::Borders::ends_by_lengths))]
 fn bad_ends(l: Length, h: House) -> bool
     ensures { result ≡ bad_ends l.mm h }
 {
@@ -59,7 +59,7 @@ fn bad_breadths(h: House) -> bool
 }
 
 // Check 10: a raised quarterdeck is enclosed, begins at the after perpendicular or abaft it, and ends abaft the fore one.
-#[tactic(auto, using(std::proofs::lemmas::Bool::Decides::nat_tests))]
+#[tactic(auto, using(crate::proofs::Borders::quarterdeck_by_lengths))]
 fn bad_quarterdeck(l: Length, h: House) -> bool
     ensures { result ≡ bad_quarterdeck l.mm h }
 {

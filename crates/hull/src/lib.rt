@@ -40,9 +40,7 @@ impl Accepted {
     pub fn length(self) -> Length
         ensures { result.mm ≡ self.ship.length.0 }
     {
-        Length {
-            mm: self.ship.length.0,
-        }
+        Length::of(self.ship.length)
     }
 
     // The hull.

@@ -38,13 +38,14 @@ pub fn framed(s: &[u8]) -> Result<Ship, Refusal>
     ensures answer { shown result ≡ reading_of (first (frame_lines s.now)) (ship_in s.now) }
     ensures places { IfOk result (λ x. x.n ≤ 8) }
 {
-    if s.len() < HEAD_BYTES {
+    let short = s.len() < HEAD_BYTES;
+    if short {
         return Err(Refusal::ShortRecord);
     }
     let h = head_reader::read(s);
     head_reader::check_head(h, s.len())?;
     let all = house_reader::houses_in(s, h.version, h.count as usize);
-    refusal::line(h.spare + all.spare != 0, Refusal::SpareBit)?;
+    refusal::line(h.spare + all.spare != 0, Refusal::SpareBit, Ok(()))?;
     let places = all.places;
     Ok(ship_of(h, places))
 }

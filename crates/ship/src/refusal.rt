@@ -1,5 +1,5 @@
 // Why a call refuses: a case for each number of the papers, with the place where it has one, and the overlap of two houses where they overlap.
-ghost use Rattle.std.specs.Prelude.{◌≡◌};
+ghost use Rattle.std.specs.Prelude.{◌≡◌, eqb};
 ghost use Rattle.whole.specs.Pick.{pick};
 ghost use Rattle.ship.specs.Refusals as Refusals;
 ghost use Rattle.ship.specs.Refusals.{accepted, paper, refused_as};
@@ -104,10 +104,18 @@ impl From<Result<(), Refusal>> for Paper {
     }
 }
 
-// A line of 01's table of refusals: its own where its check fails. A `?` behind it leaves the verdict to the lines below.
+// A line of 01's table of refusals: its own where its check fails, else what the lines below it say.
 #[tactic(auto, unfolding(whole::specs::Pick::pick))]
-pub fn line(fails: bool, r: Refusal) -> Result<(), Refusal>
-    ensures { paper result ≡ pick fails (refused_as r) accepted }
+pub fn line(fails: bool, r: Refusal, below: Result<(), Refusal>) -> Result<(), Refusal>
+    ensures { paper result ≡ pick fails (refused_as r) (paper below) }
 {
-    if fails { Err(r) } else { Ok(()) }
+    if fails { Err(r) } else { below }
+}
+
+// A verdict that refuses, or what the lines below it say.
+#[tactic(auto, using(crate::proofs::Lines::beside_refusal), unfolding(whole::specs::Pick::pick))]
+pub fn after(v: Result<(), Refusal>, below: Result<(), Refusal>) -> Result<(), Refusal>
+    ensures { paper result ≡ pick (eqb (paper v).number 0) (paper below) (paper v) }
+{
+    v.and(below)
 }

@@ -48,9 +48,7 @@ impl Vessel {
     fn length(self) -> Length
         ensures { result.mm ≡ self.hull.length.0 }
     {
-        Length {
-            mm: self.hull.length.0,
-        }
+        Length::of(self.hull.length)
     }
 
     // What is added: the line, made greater for short B ships (29) and fullness (30), then what depth adds (31), then sheer where it is lacking (38).

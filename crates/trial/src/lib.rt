@@ -83,9 +83,7 @@ fn deck_for(q: Standing, k: u64) -> Deck
         return q.deck;
     }
     let poop = Placed {
-        l: Length {
-            mm: q.hull.length.0,
-        },
+        l: Length::of(q.hull.length),
         house: poop_house(q.height, k),
     };
     deck::with_house(poop, q.ratio, q.deck)

@@ -31,6 +31,14 @@ pub struct Length {
 }
 
 impl Length {
+    // A length that L may be.
+    pub fn of(l: Span) -> Length
+        requires { l.0 ≤ 365000 }
+        ensures { result.mm ≡ l.0 }
+    {
+        Length { mm: l.0 }
+    }
+
     // As any length.
     pub fn span(self) -> Span
         ensures { result.0 ≡ self.mm }

@@ -62,9 +62,9 @@ fn verdict(x: Ship, room: usize) -> Result<(), Refusal>
     if x.n as u64 > record::MOST_HOUSES {
         return Err(Refusal::HouseCount);
     }
-    checks::of_ship(x)?;
     let short = room < record::record_length(record::lowest_for(x), x.n);
-    refusal::line(short, Refusal::ShortBuffer)
+    let last = refusal::line(short, Refusal::ShortBuffer, Ok(()));
+    refusal::after(checks::of_ship(x), last)
 }
 
 // Writes a ship's record at the start of `buf`, unless it is refused.

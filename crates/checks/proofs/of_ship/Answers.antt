@@ -22,10 +22,11 @@ returns-in_err-of_fields c =
     let p = err_from_is_err_and c.from_residual.result c.from_residual.ensures.1 in
     rw (p.1, p.2) (sym (first_refused (field_lines x) (house_lines x.length.0 (houses_of x)) c.in_err-of_fields.field-0.0 (omega arith) (sym c.in_err-of_fields.ensures)))
 
-pub invariant_of-l : goal.invariant_of-l
-invariant_of-l c = record { within = length_most c.args.x (sym c.in_ok-of_fields.ensures) }
+pub of-l-requires : goal.of-l-requires
+of-l-requires c = length_most c.args.x (sym c.in_ok-of_fields.ensures)
 
 pub returns : goal.returns
 returns c =
     let x = c.args.x in
-    c.of_houses.ensures ∙ sym (first_accepted (field_lines x) (house_lines x.length.0 (houses_of x)) (omega arith) (sym c.in_ok-of_fields.ensures))
+    let l : c.of-l.result.mm ≡ x.length.0 = c.of-l.ensures in
+    c.of_houses.ensures ∙ rw l (sym (first_accepted (field_lines x) (house_lines x.length.0 (houses_of x)) (omega arith) (sym c.in_ok-of_fields.ensures)))

@@ -9,8 +9,8 @@ use Rattle.record.proofs.Parts.{spare_within}
 use Rattle.reader.proofs.Frame.{headed, frame_short, frame_head, frame_spare, ship_whole, framed_refused, framed_accepted}
 use Rattle.reader.proofs.framed.Goals as goal
 
-pub returns-then-s-lt-HEAD_BYTES-clause-answer : goal.returns-then-s-lt-HEAD_BYTES-clause-answer
-returns-then-s-lt-HEAD_BYTES-clause-answer c = let s = c.args.s.now in framed_refused s ShortRecord (frame_short s (omega arith))
+pub returns-then-short-clause-answer : goal.returns-then-short-clause-answer
+returns-then-short-clause-answer c = let s = c.args.s.now in framed_refused s ShortRecord (frame_short s (omega arith))
 
 pub returns-in_err-check_head-clause-answer : goal.returns-in_err-check_head-clause-answer
 returns-in_err-check_head-clause-answer c =

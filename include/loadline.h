@@ -5,7 +5,7 @@
  * 2003 amendments, and the six timber marks where they are asked for, or one numbered refusal; the shortest poop for a wished
  * summer mark; a reader and a writer of the record.
  *
- * For x86-64 Linux. Link libloadline.a, or libloadline.so; ./library makes both. They need memcpy and nothing else.
+ * For x86-64 Linux. Link libloadline.a, or libloadline.so; ./library makes both. They need memcpy and memset, and nothing else.
  * No call allocates, keeps state, prints or fails in any way but a numbered refusal. Any number of threads may call at
  * once. Every byte string and every number is a permissible argument: nothing has to be checked before a call.
  *
